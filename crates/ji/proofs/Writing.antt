@@ -1,0 +1,86 @@
+-- Laws of a buffer that is written from its front (`Written`): how each kind of store takes it one step further, and what it says of the buffer.
+use mathlib.Core.Path.{_≡_, refl, sym, ap, ap₂, _∙_}
+use mathlib.Core.List.{List, [], _∷_, _++_}
+use Prim.Native.Nat.{ℕ, suc, _+_, _≤_, _<_}
+use native.Mathlib.Numerals.{add-one, add-two}
+use native.Mathlib.Omega.{arith}
+use lib.ListN.{length, take, drop, getD, set, length-append, length-drop}
+use lib.Seq.{drop-cons, set-at, append-snoc, take-at, drop-at, drop-drop, getD-append-add, getD-drop, paste, take-length, sets-eq}
+use Rattle.ji.specs.Written.{Written}
+
+-- before the first store
+pub written-none : (before : List ℕ) → Written before before 0 []
+written-none before = record { is = refl; size = refl; fits = omega arith }
+
+module _ {before after : List ℕ} {n : ℕ} {s : List ℕ} (h : Written before after n s) where
+  sized : length s ≡ n
+  sized = h .size
+
+  pub written-length : length after ≡ length before
+  written-length =
+      let e : length s ≡ n = sized in
+      let f : n ≤ length before = h .fits in
+      ap length (h .is) ∙ simp (length-append, length-drop) (omega arith)
+
+  -- the front of the buffer is what was written
+  pub written-take : take n after ≡ s
+  written-take = ap (take n) (h .is) ∙ take-at s (drop n before) n sized
+
+  -- and behind it the buffer is as it was
+  pub written-drop : drop n after ≡ drop n before
+  written-drop = ap (drop n) (h .is) ∙ drop-at s (drop n before) n sized
+
+  pub written-rest : (k : ℕ) → getD after (n + k) 0 ≡ getD before (n + k) 0
+  written-rest k =
+      ap (λ (t : List ℕ). getD t (n + k) 0) (h .is)
+      ∙ ap (λ (m : ℕ). getD (s ++ drop n before) (m + k) 0) (sym sized)
+      ∙ getD-append-add s (drop n before) k 0
+      ∙ getD-drop n before k 0
+
+  -- one more element, stored ..
+  pub written-one : (x : ℕ) → n < length before → Written before (set after n x) (n + 1) (s ++ (x ∷ []))
+  written-one x more =
+      record {
+        is = ap (λ (t : List ℕ). set t n x) (h .is)
+            ∙ ap (λ (t : List ℕ). set (s ++ t) n x) (drop-cons before n 0 more)
+            ∙ set-at s (getD before n 0) (drop (suc n) before) x n sized
+            ∙ sym (append-snoc s x (drop (suc n) before))
+            ∙ ap (λ (k : ℕ). s ++ (x ∷ []) ++ drop k before) (sym (add-one n));
+        size = length-append s (x ∷ []) ∙ ap (λ (k : ℕ). k + 1) sized;
+        fits = omega arith;
+      }
+
+  -- .. or left as it was
+  pub written-kept : n < length before → Written before after (n + 1) (s ++ (getD before n 0 ∷ []))
+  written-kept more =
+      record {
+        is = h .is
+            ∙ ap (λ (t : List ℕ). s ++ t) (drop-cons before n 0 more)
+            ∙ sym (append-snoc s (getD before n 0) (drop (suc n) before))
+            ∙ ap (λ (k : ℕ). s ++ (getD before n 0 ∷ []) ++ drop k before) (sym (add-one n));
+        size = length-append s (getD before n 0 ∷ []) ∙ ap (λ (k : ℕ). k + 1) sized;
+        fits = omega arith;
+      }
+
+  -- a whole text more
+  pub written-run : (r : List ℕ) → n + length r ≤ length before → Written before (paste after n r (length r)) (n + length r) (s ++ r)
+  written-run r room =
+      record {
+        is = ap (λ (t : List ℕ). paste t n r (length r)) (h .is)
+            ∙ ap (λ (t : List ℕ). t ++ take (length r) r ++ drop (n + length r) (s ++ drop n before)) (take-at s (drop n before) n sized)
+            ∙ ap (λ (t : List ℕ). s ++ t ++ drop (n + length r) (s ++ drop n before)) (take-length r)
+            ∙ ap (λ (t : List ℕ). s ++ r ++ t) (sym (drop-drop (length r) n (s ++ drop n before)) ∙ ap (drop (length r)) (drop-at s (drop n before) n sized) ∙ drop-drop (length r) n before);
+        size = length-append s r ∙ ap (λ (k : ℕ). k + length r) sized;
+        fits = room;
+      }
+
+-- straight stores at j, j + 1, j + 2, as a run
+module _ (d : List ℕ) (j : ℕ) where
+  pub stores-1 : (a : ℕ) → j + 1 ≤ length d → set d j a ≡ paste d j (a ∷ []) 1
+  stores-1 a room = sets-eq (a ∷ []) d j room
+
+  pub stores-2 : (a b : ℕ) → j + 2 ≤ length d → set (set d j a) (j + 1) b ≡ paste d j (a ∷ b ∷ []) 2
+  stores-2 a b room = ap (λ (k : ℕ). set (set d j a) k b) (add-one j) ∙ sets-eq (a ∷ b ∷ []) d j room
+
+  pub stores-3 : (a b c : ℕ) → j + 3 ≤ length d → set (set (set d j a) (j + 1) b) (j + 2) c ≡ paste d j (a ∷ b ∷ c ∷ []) 3
+  stores-3 a b c room = ap₂ (λ (k n : ℕ). set (set (set d j a) k b) n c) (add-one j) (add-two j) ∙ sets-eq (a ∷ b ∷ c ∷ []) d j room

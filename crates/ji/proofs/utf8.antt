@@ -1,0 +1,4 @@
+pub mod Laws
+pub mod Decoding
+pub mod Encoding
+pub mod RoundTrip

@@ -1,0 +1,10 @@
+pub mod Text
+pub mod Written
+pub mod Utf8
+pub mod Unicode
+pub mod Nfd
+pub mod Nfc
+pub mod Reply
+pub mod Reading
+pub mod Tone
+pub mod Lomaji

@@ -1,0 +1,5 @@
+-- What `lomaji.rs` does, a file for each job.
+pub mod Strip
+pub mod Khin
+pub mod ToneLetter
+pub mod Keys

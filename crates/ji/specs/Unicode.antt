@@ -1,0 +1,35 @@
+-- Texts of the table: which texts it has, what a reader of bytes takes, and lengths in bytes and in code points (`to_byte_len`).
+use mathlib.Core.Bool.{Bool, true, false, _&&_}
+use mathlib.Core.List.{List, [], _∷_, _++_}
+use Prim.Native.Nat.{ℕ, zero, suc, _-_}
+use lib.Dec.{eqb}
+use lib.ListN.{length, take}
+use Rattle.ucd.specs.Table.{Table, member, pickText}
+use Rattle.ucd.specs.Full.{full}
+use Rattle.ji.specs.Utf8.{widthAt, pointAt, encode}
+
+-- `to_byte_len`: how many bytes the first n code points of a text take
+unfoldable pub toByteLen : List ℕ → ℕ → ℕ
+toByteLen s n = length (encode (take n s))
+
+module _ (t : Table) where
+  -- each code point of a text is in the table
+  unfoldable pub members : List ℕ → Bool
+  members [] = true
+  members (c ∷ s) = member t c && members s
+
+  -- the code points of the bytes s, up to the first sequence that is ill formed or whose code point is outside the table
+  unfoldable pub acceptedFrom : ℕ → List ℕ → List ℕ
+  acceptedFrom skip [] = []
+  acceptedFrom zero (b ∷ s) =
+      let taken : List ℕ = pointAt (b ∷ s) ∷ acceptedFrom (widthAt (b ∷ s) - 1) s in
+      pickText (eqb (widthAt (b ∷ s)) 0) [] (pickText (member t (pointAt (b ∷ s))) taken [])
+  acceptedFrom (suc skip) (b ∷ s) = acceptedFrom skip s
+
+  unfoldable pub accepted : List ℕ → List ℕ
+  accepted s = acceptedFrom 0 s
+
+  -- a text as it is, or fully decomposed
+  unfoldable pub spread : Bool → List ℕ → List ℕ
+  spread true s = full t s
+  spread false s = s

@@ -1,0 +1,4 @@
+// What `lomaji.rs` does, a file for each job.
+pub mod keys;
+pub mod khin;
+pub mod tone_letter;

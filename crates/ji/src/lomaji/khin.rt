@@ -1,0 +1,7 @@
+// The neutral-tone mark.
+
+// Whether a text has the mark.
+pub enum Khin {
+    No,
+    Yes,
+}

@@ -1,0 +1,10 @@
+// Why a call is refused.
+pub enum Refusal {
+    Argument,
+    TooLong,
+    IllFormed,
+    OutsideTable,
+    Parts,
+    Position,
+    NoRoom,
+}

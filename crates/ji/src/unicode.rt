@@ -1,0 +1,109 @@
+// Texts of the table: read from bytes, checked and, if asked, decomposed while they are read. Lengths in bytes and in code points are two
+// types; only the UTF-8 walk turns one into the other.
+use crate::reply::Refusal;
+use crate::utf8;
+use ucd::Mapping;
+ghost use mathlib.Core.Path.{_≡_};
+ghost use mathlib.Core.List.{[], _∷_, _++_};
+ghost use Prim.Native.Nat.{ℕ, _+_, _*_, _≤_};
+ghost use lib.ListN.{length};
+ghost use lib.Seq.{paste};
+ghost use Rattle.ucd.specs.Table.{decomposition};
+ghost use Rattle.ucd.specs.Unicode16.{unicode16};
+ghost use Rattle.ji.specs.Unicode.{spread};
+ghost use Rattle.ji.specs.Reading.{spreadText, Reading};
+
+// A number of bytes.
+pub struct ByteLen(pub usize);
+
+// A number of code points.
+pub struct CharLen(pub usize);
+
+// What reading a text gives: its code points in the buffer, or why it is refused.
+pub(crate) enum Decoded {
+    Points(CharLen),
+    Refused(Refusal),
+}
+
+// What a code point becomes: itself, or its full decomposition, which has at most three.
+enum Spread {
+    One(u16),
+    Two(u16, u16),
+    Three(u16, u16, u16),
+}
+
+// The decomposition of `a`, and `b` behind it.
+fn spread_pair(a: u16, b: u16) -> Spread
+    ensures { λ r. ⌜ spreadText r ≡ decomposition unicode16 a ++ (b ∷ []) ⌝ }
+{
+    match ucd::decomposition(a) {
+        Mapping::Itself => Spread::Two(a, b),
+        Mapping::One(x) => Spread::Two(x, b),
+        Mapping::Two(x, y) => Spread::Three(x, y, b),
+    }
+}
+
+fn spread_point(c: u16, decomposed: bool) -> Spread
+    ensures { λ r. ⌜ spreadText r ≡ spread unicode16 decomposed (c ∷ []) ⌝ }
+{
+    if decomposed {
+        match ucd::decomposition(c) {
+            Mapping::Itself => Spread::One(c),
+            Mapping::One(a) => Spread::One(a),
+            Mapping::Two(a, b) => spread_pair(a, b),
+        }
+    } else {
+        Spread::One(c)
+    }
+}
+
+// Writes these code points at `at`, and returns the place behind them.
+fn put(points: Spread, out: &mut [u16], at: usize) -> usize
+    requires { ⌜ at + length (spreadText points) ≤ length (now out) ⌝ }
+    ensures { λ r. ⌜ (r ≡ at + length (spreadText points)) × (now (out .exit) ≡ paste (now (out .entry)) at (spreadText points) (length (spreadText points))) ⌝ }
+{
+    match points {
+        Spread::One(a) => {
+            out[at] = a;
+            at + 1
+        }
+        Spread::Two(a, b) => {
+            out[at] = a;
+            out[at + 1] = b;
+            at + 2
+        }
+        Spread::Three(a, b, c) => {
+            out[at] = a;
+            out[at + 1] = b;
+            out[at + 2] = c;
+            at + 3
+        }
+    }
+}
+
+// The code points of `s`, as they are or fully decomposed, written to the front of `out`.
+pub(crate) fn decode(s: &[u8], decomposed: bool, out: &mut [u16]) -> Decoded
+    requires { ⌜ 3 * length (now s) ≤ 2 * length (now out) ⌝ }
+    ensures { λ r. ⌜ Reading unicode16 decomposed (now (s .entry)) (now (out .entry)) (now (out .exit)) r ⌝ }
+{
+    let mut i = 0;
+    let mut n: usize = 0;
+    while i < s.len() {
+        let sequence = utf8::read_at(s, i);
+        let width = sequence.width;
+        if width == 0 {
+            return Decoded::Refused(Refusal::IllFormed);
+        }
+        let point = sequence.point;
+        if ucd::is_member(point) {
+            n = put(spread_point(point as u16, decomposed), out, n);
+            i += width;
+        } else {
+            if utf8::well_formed(s, i) {
+                return Decoded::Refused(Refusal::OutsideTable);
+            }
+            return Decoded::Refused(Refusal::IllFormed);
+        }
+    }
+    Decoded::Points(CharLen(n))
+}
