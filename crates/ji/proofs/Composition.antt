@@ -1,7 +1,7 @@
 -- The laws of the canonical composition algorithm (the Unicode Standard, 3.11, D115 and D117), over any table: what `absorb` and `compose`
 -- compute is what R1 and R2 say, and nothing else is.
-use mathlib.Core.Path.{_≡_, refl, sym, _∙_, ap, ap₂, subst}
-use mathlib.Core.Bool.{Bool, true, false}
+use mathlib.Core.Path.{_≡_, refl, sym, _∙_, ap, subst}
+use mathlib.Core.Bool.{true, false}
 use mathlib.Core.List.{List, [], _∷_, _++_, append-assoc, append-nil}
 use mathlib.Core.Option.{Option, none, some}
 use Prim.Native.Nat.{ℕ, _<_}
@@ -13,6 +13,7 @@ use Rattle.ucd.proofs.Tests.{either}
 use Rattle.ji.specs.Nfc.{behind, under, orKept, reversed, Unblocked, Replaces, Composes, end, replaced, kept, absorb, composeFrom, compose}
 use Rattle.ji.proofs.Cases.{by-answer, none-not-some}
 
+-- `reversed` of a text's parts, and twice
 pub reversed-cons : (c : ℕ) (s : List ℕ) → reversed (c ∷ s) ≡ reversed s ++ (c ∷ [])
 unfolding reversed
 reversed-cons c s = refl
@@ -45,6 +46,7 @@ unfolding reversed
 all-reversed P [] h = tt
 all-reversed P (c ∷ s) h = all-append P (reversed s) (c ∷ []) (all-reversed P s (h .1)) (h .0, tt)
 
+-- what an answer was made of
 behind-some : (o : Option ℕ) (r q : List ℕ) → behind o r ≡ some q → (p : ℕ) × (o ≡ some p) × (p ∷ r ≡ q)
 unfolding behind
 behind-some none r q e = absurd (none-not-some refl e)
@@ -87,7 +89,7 @@ module _ (t : Table) where
   absorbs-absorb c (past {b} low high x) =
       rw (ne-eqb (combiningClass t b) 0 (λ z. omega arith), lt-ltb (combiningClass t b) (combiningClass t c) high, absorbs-absorb c x)
 
-  -- and they are R1 and R2 of the text the right way round
+  -- a mark that does not block c may follow what c is put to
   replaces-further : (b c : ℕ) {done done′ : List ℕ} → 0 < combiningClass t b → combiningClass t b < combiningClass t c
       → Replaces t c done done′ → Replaces t c (done ++ (b ∷ [])) (done′ ++ (b ∷ []))
   replaces-further b c low high h =
@@ -104,6 +106,7 @@ module _ (t : Table) where
         becomes = rw (h .becomes) (append-assoc (h .before) (h .point ∷ h .between) (b ∷ []));
       }
 
+  -- the rules, of what is done the right way round, are R1 and R2
   absorbs-replaces : (c : ℕ) {r q : List ℕ} → Absorbs c r q → Replaces t c (reversed r) (reversed q)
   unfolding reversed
   absorbs-replaces c (joins {l} {p} {r} z e) =
@@ -125,7 +128,8 @@ module _ (t : Table) where
 
   -- D117, R1 and R2: what `absorb` answers is a replacement ..
   pub absorb-sound : (c : ℕ) (done q : List ℕ) → absorb t c (reversed done) ≡ some q → Replaces t c done (reversed q)
-  absorb-sound c done q e = subst (λ (l : List ℕ). Replaces t c l (reversed q)) (reversed-reversed done) (absorbs-replaces c (absorb-absorbs c (reversed done) q e))
+  absorb-sound c done q e =
+      subst (λ (l : List ℕ). Replaces t c l (reversed q)) (reversed-reversed done) (absorbs-replaces c (absorb-absorbs c (reversed done) q e))
 
   -- .. and each replacement is what it answers
   pub absorb-complete : (c : ℕ) (done done′ : List ℕ) → Replaces t c done done′ → absorb t c (reversed done) ≡ some (reversed done′)
@@ -139,7 +143,7 @@ module _ (t : Table) where
       never (joins {l} {p} y e) = n l p e
       never (past low high x) = omega arith
 
-  -- a turn of the composition: c stays, or is absorbed
+  -- the turns of the composition: it ends, c stays, or c is absorbed
   pub compose-nil : (r : List ℕ) → composeFrom t r [] ≡ r
   unfolding composeFrom
   compose-nil r = refl
@@ -163,13 +167,14 @@ module _ (t : Table) where
       (λ e. rw (compose-kept c r s e) (compose-keeps Q stays joined s (c ∷ r) (stays c r s e h)))
       (λ q e. rw (compose-absorbed c r q s e) (compose-keeps Q stays joined s q (joined c r q s (absorb-absorbs c r q e) h)))
 
-  -- D117 gives what `compose` computes ..
+  -- D117: what `compose` computes is reached by R1 and R2 ..
   from-sound : (s done r : List ℕ) → r ≡ reversed done → Composes t done s (reversed (composeFrom t r s))
   from-sound [] done r e = rw (compose-nil, e, reversed-reversed) end
   from-sound (c ∷ s) done r e =
       by-answer (absorb t c (reversed done))
       (λ z. rw (e, compose-kept c (reversed done) s z)
-      (kept (λ done′ h. none-not-some z (absorb-complete c done done′ h)) (from-sound s (done ++ (c ∷ [])) (c ∷ reversed done) (sym (reversed-snoc done c)))))
+      (kept (λ done′ h. none-not-some z (absorb-complete c done done′ h))
+      (from-sound s (done ++ (c ∷ [])) (c ∷ reversed done) (sym (reversed-snoc done c)))))
       (λ q z. rw (e, compose-absorbed c (reversed done) q s z)
       (replaced (absorb-sound c done q z) (from-sound s (reversed q) q (sym (reversed-reversed q)))))
 
@@ -177,7 +182,7 @@ module _ (t : Table) where
   unfolding compose reversed
   compose-sound s = from-sound s [] [] refl
 
-  -- .. and nothing else
+  -- .. and nothing else is
   from-only : {done s r : List ℕ} → Composes t done s r → r ≡ reversed (composeFrom t (reversed done) s)
   from-only (end {done}) = sym (ap reversed (compose-nil (reversed done)) ∙ reversed-reversed done)
   from-only (replaced {c} {done} {done′} {s} h x) =

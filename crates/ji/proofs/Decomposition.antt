@@ -9,6 +9,7 @@ use Rattle.ucd.specs.Full.{pass, passes, full, Facts}
 use Rattle.ji.proofs.Composition.{all-append}
 
 module _ (t : Table) where
+  -- one pass, and any number
   pass-append : (s u : List ℕ) → pass t (s ++ u) ≡ pass t s ++ pass t u
   unfolding pass
   pass-append [] u = refl
@@ -62,11 +63,12 @@ module _ (t : Table) where
   full-all P Q each (c ∷ s) h = rw (full-cons c s) (all-append Q (full t (c ∷ [])) (full t s) (each c (h .0)) (full-all P Q each s (h .1)))
 
   module _ (F : Facts t) where
-    -- nothing of it decomposes further
+    -- nothing of a full decomposition decomposes further
     pub full-is-atoms : (s : List ℕ) → All (Atom t) (full t s)
     full-is-atoms [] = rw full-nil tt
     full-is-atoms (c ∷ s) = rw (full-cons c s) (all-append (Atom t) (full t (c ∷ [])) (full t s) (F .atoms c) (full-is-atoms s))
 
+    -- decomposing again changes nothing
     pub full-full : (s : List ℕ) → full t (full t s) ≡ full t s
     full-full s = full-atoms (full t s) (full-is-atoms s)
 

@@ -49,10 +49,12 @@ module _ (t : Table) (F : Facts t) (R : Rising t) where
   mark-stays c b h (past low high x) n u (joins z e) = omega arith
   mark-stays c b h (past {b = d} low high x) n u (past {q = v} low′ high′ y) = mark-stays c b h x (λ w k. n (d ∷ w) (past low′ high′ k)) v y
 
+  -- so R1 and R2 leave nothing to join, where nothing was left
   absorbs-finished : (c : ℕ) {r q : List ℕ} → Absorbs t c r q → Finished t r → Finished t q
   absorbs-finished c (joins {l} {p} z e) h = ((λ q x. starter-stays p (F .starter l c p e) x), h .1)
   absorbs-finished c (past {b} low high x) h = (mark-stays c b high x (h .0), absorbs-finished c x (h .1))
 
+  -- and the composition ends with nothing to join
   compose-finished : (s : List ℕ) → Finished t (composeFrom t [] s)
   compose-finished s =
       compose-keeps t (λ r u. Finished t r)
@@ -64,7 +66,8 @@ module _ (t : Table) (F : Facts t) (R : Rising t) where
   pub nfc-done : (s done : List ℕ) (c : ℕ) (rest : List ℕ) → nfc t s ≡ done ++ (c ∷ rest) → (done′ : List ℕ) → Replaces t c done done′ → ⊥
   unfolding nfc compose
   nfc-done s done c rest e done′ h =
-      finished-at t (reversed rest) (c ∷ reversed done) (subst (Finished t) turned (compose-finished (nfd t s))) .0 (reversed done′) (replaces-absorbs t c h)
+      finished-at t (reversed rest) (c ∷ reversed done) (subst (Finished t) turned (compose-finished (nfd t s))) .0 (reversed done′)
+      (replaces-absorbs t c h)
     where
       turned : composeFrom t [] (nfd t s) ≡ reversed rest ++ (c ∷ reversed done)
       turned = sym (reversed-reversed (composeFrom t [] (nfd t s))) ∙ ap reversed e ∙ reversed-at done c rest
@@ -85,6 +88,7 @@ module _ (t : Table) where
   rises (a ∷ b ∷ d ∷ r) = true
 
   module _ (F : Facts t) (h : T (eachMapping (λ c. rises) (t .mappings))) where
+    -- it passes at each composite
     pair-rises : (a b p : ℕ) → composite t a b ≡ some p → T (ltb 0 (combiningClass t b) && risesTo b (decomposition t a))
     unfolding decomposition rises
     pair-rises a b p e = ⊎-elim (λ one. absurd (two-not-one t a b p two one)) (λ k. rw two at k) (mapping-passes (λ c. rises) (t .mappings) h p)
@@ -102,6 +106,7 @@ module _ (t : Table) where
               (rw (F .decomposes l c p e) at (both-right (ltb 0 (combiningClass t b)) (risesTo b (decomposition t p)) (pair-rises p b q f)));
         }
 
+-- the table of Unicode 16.0 passes it
 pub unicode16-rising : Rising unicode16
 unfolding risesTo rises mappingIn decomposition classIn combiningClass unicode16 mappings16 classes16
 unicode16-rising = rising unicode16 unicode16-facts tt

@@ -1,8 +1,13 @@
 pub mod Bools
-pub mod Writing
 pub mod Cases
+pub mod Writing
+pub mod Underway
+pub mod Replies
 pub mod Order
+pub mod OrderLoops
 pub mod Composition
+pub mod ComposeLoops
 pub mod Decomposition
 pub mod Normalisation
 pub mod Finished
+pub mod CanonicalExamples

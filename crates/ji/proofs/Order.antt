@@ -4,7 +4,7 @@ use mathlib.Core.Path.{_≡_, refl, sym, _∙_, ap}
 use mathlib.Core.Bool.{Bool, true, false, _||_}
 use mathlib.Core.List.{List, [], _∷_, _++_}
 use mathlib.Core.Logic.{_⊎_, inl, inr}
-use Prim.Native.Nat.{ℕ, _<_}
+use Prim.Native.Nat.{ℕ}
 use native.Mathlib.Omega.{arith}
 use lib.Dec.{ltb, eqb}
 use borrow.Author.Tests.{lt-ltb, ltb-true, eqb-true, ne-eqb}
@@ -67,6 +67,7 @@ module _ (t : Table) where
           (λ f. rw (insert-past a c s f, insert-here b c (insert t a s) e))
           (λ f. rw (insert-here a c s f, insert-here b a (c ∷ s) (not-back a b h)))
 
+  -- the order, from the last code point to the first
   pub order-nil : order t [] ≡ []
   unfolding order
   order-nil = refl
@@ -147,6 +148,7 @@ module _ (t : Table) where
   ordered-fixed [] h = order-nil
   ordered-fixed (a ∷ s) h = rw (order-cons, ordered-fixed s (h .1)) (insert-fixed a s (h .0))
 
+  -- ordering again changes nothing
   pub order-order : (s : List ℕ) → order t (order t s) ≡ order t s
   order-order s = ordered-fixed (order t s) (order-ordered s)
 
@@ -182,11 +184,13 @@ module _ (t : Table) where
       inr (rw (ne-eqb (combiningClass t b) k (λ z. omega arith), ne-eqb (combiningClass t b) 0 (λ z. omega arith))))
       (λ e. inl (rw (e, ne-eqb (combiningClass t a) 0 (λ z. omega arith))))
 
+  -- then it does not matter which of the two is put in front
   pick-pick : (a b : Bool) (x y : ℕ) (r : List ℕ) → (a ≡ false) ⊎ (b ≡ false)
       → pickText a (x ∷ pickText b (y ∷ r) r) (pickText b (y ∷ r) r) ≡ pickText b (y ∷ pickText a (x ∷ r) r) (pickText a (x ∷ r) r)
   pick-pick a b x y r (inl e) = rw e
   pick-pick a b x y r (inr e) = rw e
 
+  -- so exchanges keep what is of class k, and the starters
   exchange-stable : (k : ℕ) {s u : List ℕ} → Exchange t s u → ofClass t k s ≡ ofClass t k u
   unfolding ofClass
   exchange-stable k (here {a} {b} {s} h) =

@@ -1,10 +1,10 @@
 -- Laws of a buffer that is written from its front (`Written`): how each kind of store takes it one step further, and what it says of the buffer.
 use mathlib.Core.Path.{_≡_, refl, sym, ap, ap₂, _∙_}
-use mathlib.Core.List.{List, [], _∷_, _++_}
+use mathlib.Core.List.{List, [], _∷_, _++_, append-nil}
 use Prim.Native.Nat.{ℕ, suc, _+_, _≤_, _<_}
 use native.Mathlib.Numerals.{add-one, add-two}
 use native.Mathlib.Omega.{arith}
-use lib.ListN.{length, take, drop, getD, set, length-append, length-drop}
+use lib.ListN.{length, take, drop, getD, set, length-append, length-drop, drop-of-length-le}
 use lib.Seq.{drop-cons, set-at, append-snoc, take-at, drop-at, drop-drop, getD-append-add, getD-drop, paste, take-length, sets-eq}
 use Rattle.ji.specs.Written.{Written}
 
@@ -36,6 +36,14 @@ module _ {before after : List ℕ} {n : ℕ} {s : List ℕ} (h : Written before 
       ∙ ap (λ (m : ℕ). getD (s ++ drop n before) (m + k) 0) (sym sized)
       ∙ getD-append-add s (drop n before) k 0
       ∙ getD-drop n before k 0
+
+  -- nothing is behind it: the buffer is what was written
+  pub written-whole : length before ≤ n → after ≡ s
+  written-whole full = h .is ∙ ap (λ (t : List ℕ). s ++ t) (drop-of-length-le before full) ∙ append-nil s
+
+  -- what was written, replaced by a text as long
+  pub written-over : (t : List ℕ) → length t ≡ n → Written before (t ++ drop n after) n t
+  written-over t same = record { is = ap (λ (u : List ℕ). t ++ u) written-drop; size = same; fits = h .fits }
 
   -- one more element, stored ..
   pub written-one : (x : ℕ) → n < length before → Written before (set after n x) (n + 1) (s ++ (x ∷ []))

@@ -14,6 +14,10 @@ abbrev pub points : String → List ℕ
 points empty = []
 points (c :> s) = code c ∷ points s
 
+-- a quoted text and a mark behind it, which document 01 writes as o+0358
+abbrev pub marked : String → ℕ → List ℕ
+marked s mark = points s ++ (mark ∷ [])
+
 -- the one code point of a quoted text
 abbrev pub point : String → ℕ
 point s = getD (points s) 0 0

@@ -19,3 +19,16 @@ toneNumber T9 = 9
 abbrev pub pickTone : Bool → Tone → Tone → Tone
 pickTone true a b = a
 pickTone false a b = b
+
+-- a tone other than None
+abbrev pub isTone : Tone → Bool
+isTone None = false
+isTone T1 = true
+isTone T2 = true
+isTone T3 = true
+isTone T4 = true
+isTone T5 = true
+isTone T6 = true
+isTone T7 = true
+isTone T8 = true
+isTone T9 = true

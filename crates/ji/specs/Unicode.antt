@@ -6,6 +6,8 @@ use lib.Dec.{eqb}
 use lib.ListN.{length, take}
 use Rattle.ucd.specs.Table.{Table, member, pickText}
 use Rattle.ucd.specs.Full.{full}
+-- the edition in use, for the crates above
+pub use Rattle.ucd.specs.Unicode16.{unicode16}
 use Rattle.ji.specs.Utf8.{widthAt, pointAt, encode}
 
 -- `to_byte_len`: how many bytes the first n code points of a text take

@@ -1,6 +1,9 @@
 // Texts, normalisation, tones and keys of one syllable.
 pub mod lomaji;
+mod nfc;
+mod nfd;
 pub mod reply;
+mod text;
 pub mod tone;
 pub mod unicode;
 mod utf8;

@@ -1,4 +1,5 @@
 // What `lomaji.rs` does, a file for each job.
 pub mod keys;
 pub mod khin;
+pub mod strip;
 pub mod tone_letter;

@@ -2,18 +2,19 @@
 -- the mappings, shows that the candidate is the composite exactly if its decomposition is a, b. For any table and any such function.
 -- Assumes nothing.
 use mathlib.Core.Path.{_≡_, refl, sym, _∙_, ap, subst}
-use mathlib.Core.Bool.{Bool, true, false, not, _&&_, Bool·beq}
+use mathlib.Core.Bool.{Bool, true, false, Bool·beq}
 use mathlib.Core.List.{List, [], _∷_}
 use mathlib.Core.Logic.{_⊎_, inl, inr}
 use mathlib.Core.Option.{Option, none, some, Option·some-ne-none}
 use Prim.Native.Nat.{ℕ}
 use lib.Dec.{T, eqb}
 use borrow.Author.Tests.{eqb-true, eq-eqb}
-use Rattle.ucd.specs.Table.{Table, Atom, pickText, pickPoint, same, listed, mappingIn, decomposition, combiningClass, isComposite, compositeIn, composite}
-use Rattle.ucd.proofs.Tests.{either, passes, passed, both-left, both-right, same-equal, same-itself}
+use Rattle.ucd.specs.Table.{Table, Atom, pickPoint, same, mappingIn, decomposition, isComposite, compositeIn, composite}
+use Rattle.ucd.proofs.Tests.{either, true-passes, passes-true, same-equal, same-itself}
 use Rattle.ucd.proofs.Lists.{eachMapping, mapping-passes}
-use Rattle.ucd.proofs.Facts.{composite-is, is-decomposition, two-not-one}
+use Rattle.ucd.proofs.Facts.{primary, composite-is, is-decomposition, two-not-one}
 
+-- tests that agree are equal
 beq-equal : (x y : Bool) → T (Bool·beq x y) → x ≡ y
 beq-equal true true h = refl
 beq-equal true false h = absurd h
@@ -21,11 +22,8 @@ beq-equal false true h = absurd h
 beq-equal false false h = refl
 
 module _ (t : Table) where
-  -- what D113 asks of a composite beside its decomposition, which begins with a
-  unfoldable pub primary : ℕ → ℕ → Bool
-  primary p a = not (listed (t .exclusions) p) && (eqb (combiningClass t p) 0 && eqb (combiningClass t a) 0)
-
-  composite-primary : (a b p : ℕ) → decomposition t p ≡ a ∷ b ∷ [] → isComposite t a b p ≡ primary p a
+  -- where the decomposition of p is a, b, only D113 is left to ask
+  composite-primary : (a b p : ℕ) → decomposition t p ≡ a ∷ b ∷ [] → isComposite t a b p ≡ primary t p a
   unfolding isComposite primary
   composite-primary a b p e = rw (e, same-itself (a ∷ b ∷ []))
 
@@ -45,10 +43,11 @@ module _ (t : Table) where
     unfoldable pub rightCandidate : ℕ → List ℕ → Bool
     rightCandidate p [] = true
     rightCandidate p (a ∷ []) = true
-    rightCandidate p (a ∷ b ∷ []) = Bool·beq (eqb (candidate a b) p) (primary p a)
+    rightCandidate p (a ∷ b ∷ []) = Bool·beq (eqb (candidate a b) p) (primary t p a)
     rightCandidate p (a ∷ b ∷ x ∷ s) = true
 
     module _ (test : T (eachMapping rightCandidate (t .mappings))) (a b : ℕ) where
+      -- so it is for every code point whose decomposition is a, b
       two-right : (p : ℕ) → decomposition t p ≡ a ∷ b ∷ [] → eqb (candidate a b) p ≡ isComposite t a b p
       unfolding rightCandidate decomposition
       two-right p e = go (mapping-passes rightCandidate (t .mappings) test p)
@@ -56,9 +55,10 @@ module _ (t : Table) where
           go : Atom t p ⊎ T (rightCandidate p (decomposition t p)) → eqb (candidate a b) p ≡ isComposite t a b p
           go (inl one) = absurd (two-not-one t a b p e one)
           go (inr h) =
-              beq-equal (eqb (candidate a b) p) (primary p a) (subst (λ (s : List ℕ). T (rightCandidate p s)) e h) ∙
+              beq-equal (eqb (candidate a b) p) (primary t p a) (subst (λ (s : List ℕ). T (rightCandidate p s)) e h) ∙
               sym (composite-primary a b p e)
 
+      -- the composite is the candidate, if that decomposes to a, b, and else there is none
       pub candidate-composite :
           pickPoint (same (decomposition t (candidate a b)) (a ∷ b ∷ [])) (some (candidate a b)) none ≡ composite t a b
       unfolding composite decomposition
@@ -67,14 +67,17 @@ module _ (t : Table) where
           q : ℕ
           q = candidate a b
 
-          go : (o : Option ℕ) → composite t a b ≡ o → pickPoint (same (decomposition t q) (a ∷ b ∷ [])) (some q) none ≡ composite t a b
+          decomposes : Bool
+          decomposes = same (decomposition t q) (a ∷ b ∷ [])
+
+          go : (o : Option ℕ) → composite t a b ≡ o → pickPoint decomposes (some q) none ≡ composite t a b
           go none e =
-              either (same (decomposition t q) (a ∷ b ∷ []))
-              (λ h. let two : decomposition t q ≡ a ∷ b ∷ [] = same-equal (decomposition t q) (a ∷ b ∷ []) (passes (same (decomposition t q) (a ∷ b ∷ [])) h) in
+              either decomposes
+              (λ h. let two : decomposition t q ≡ a ∷ b ∷ [] = same-equal (decomposition t q) (a ∷ b ∷ []) (true-passes decomposes h) in
               absurd (two-not-one t a b q two (missed (t .mappings) a b q (sym (two-right q two) ∙ eq-eqb q q refl) e)))
               (λ h. rw h (sym e))
           go (some p) e =
               let is : T (isComposite t a b p) = composite-is t a b p e in
               let two : decomposition t p ≡ a ∷ b ∷ [] = is-decomposition t a b p is in
-              let known : q ≡ p = eqb-true q p (two-right p two ∙ passed (isComposite t a b p) is) in
+              let known : q ≡ p = eqb-true q p (two-right p two ∙ passes-true (isComposite t a b p) is) in
               rw (known, two, same-itself (a ∷ b ∷ [])) (sym e)

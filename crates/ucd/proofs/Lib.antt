@@ -1,10 +1,10 @@
-pub mod RowData
 pub mod Tests
 pub mod Lists
 pub mod Facts
-pub mod RowLaw
 pub mod Unicode16
-pub mod Rows
 pub mod Candidate
+pub mod RowLaw
+pub mod RowData
+pub mod Rows
 pub mod Ranges
 pub mod Answer

@@ -1,21 +1,22 @@
 -- A test that passes at each row of a list of a table says something of every number. Assumes nothing.
-use mathlib.Core.Path.{_≡_, refl, sym, subst}
-use mathlib.Core.Bool.{Bool, true, false, _&&_, _||_}
+use mathlib.Core.Path.{_≡_, refl, subst}
+use mathlib.Core.Bool.{Bool, true, false, _&&_}
 use mathlib.Core.List.{List, [], _∷_}
 use mathlib.Core.Logic.{_⊎_, inl, inr}
 use Prim.Native.Nat.{ℕ, _≤_}
 use lib.Dec.{T, leb, eqb, leb→le, eqb→eq}
 use Rattle.ucd.specs.Table.{inRanges, mappingIn, classIn, pickText, pickNumber}
-use Rattle.ucd.proofs.Tests.{either, passes, both-left, both-right}
+use Rattle.ucd.proofs.Tests.{either, true-passes, both-left, both-right}
 
 -- the test f passes at each code point that has a mapping, and its mapping
 abbrev pub eachMapping : (ℕ → List ℕ → Bool) → List (ℕ × List ℕ) → Bool
 eachMapping f [] = true
 eachMapping f (r ∷ rs) = f (r .0) (r .1) && eachMapping f rs
 
+-- one row, of k: the search stops there, or goes on
 mapping-row : (f : ℕ → List ℕ → Bool) (k c : ℕ) (text rest : List ℕ) (hit : Bool) → eqb k c ≡ hit → T (f k text)
     → (rest ≡ c ∷ []) ⊎ T (f c rest) → (pickText hit text rest ≡ c ∷ []) ⊎ T (f c (pickText hit text rest))
-mapping-row f k c text rest true e h later = inr (subst (λ (x : ℕ). T (f x text)) (eqb→eq k c (passes (eqb k c) e)) h)
+mapping-row f k c text rest true e h later = inr (subst (λ (x : ℕ). T (f x text)) (eqb→eq k c (true-passes (eqb k c) e)) h)
 mapping-row f k c text rest false e h later = later
 
 -- then each number has no mapping, or passes it with its decomposition
@@ -32,9 +33,10 @@ abbrev pub eachClass : (ℕ → ℕ → Bool) → List (ℕ × ℕ) → Bool
 eachClass f [] = true
 eachClass f (r ∷ rs) = f (r .0) (r .1) && eachClass f rs
 
+-- one row, of k: the search stops there, or goes on
 class-row : (f : ℕ → ℕ → Bool) (k c class rest : ℕ) (hit : Bool) → eqb k c ≡ hit → T (f k class)
     → (rest ≡ 0) ⊎ T (f c rest) → (pickNumber hit class rest ≡ 0) ⊎ T (f c (pickNumber hit class rest))
-class-row f k c class rest true e h later = inr (subst (λ (x : ℕ). T (f x class)) (eqb→eq k c (passes (eqb k c) e)) h)
+class-row f k c class rest true e h later = inr (subst (λ (x : ℕ). T (f x class)) (eqb→eq k c (true-passes (eqb k c) e)) h)
 class-row f k c class rest false e h later = later
 
 -- then each number has class 0, or passes it with its class
@@ -58,7 +60,7 @@ range-passes f [] h c m = absurd m
 range-passes f (r ∷ rs) h c m =
     either (leb (r .0) c && leb c (r .1))
     (λ e.
-    let inside : T (leb (r .0) c && leb c (r .1)) = passes (leb (r .0) c && leb c (r .1)) e in (
+    let inside : T (leb (r .0) c && leb c (r .1)) = true-passes (leb (r .0) c && leb c (r .1)) e in (
       r .0,
       r .1,
       leb→le (r .0) c (both-left (leb (r .0) c) (leb c (r .1)) inside),

@@ -5,11 +5,11 @@ use mathlib.Core.List.{List, [], _∷_}
 use Prim.Native.Nat.{ℕ, _<_, _≤_}
 use native.Mathlib.Omega.{arith}
 use lib.Dec.{leb, ltb, eqb}
-use borrow.Author.Tests.{ltb-true, ltb-false, leb-true, leb-false, eqb-true, eqb-false, le-leb, lt-leb, eq-eqb, ne-eqb}
+use borrow.Author.Tests.{ltb-false, leb-true, leb-false, eqb-true, eqb-false, le-leb, lt-leb}
 use Rattle.ucd.specs.Table.{inRanges}
-use Rattle.ucd.specs.Unicode16.{unicode16, ranges16}
 use Rattle.ucd.proofs.Tests.{either}
 
+-- a range is kept where the test is true
 abbrev keepRange : Bool → ℕ × ℕ → List (ℕ × ℕ) → List (ℕ × ℕ)
 keepRange true r rs = r ∷ rs
 keepRange false r rs = rs
@@ -20,12 +20,14 @@ between low high [] = []
 between low high (r ∷ rs) = keepRange (leb low (r .1) && ltb (r .0) high) r (between low high rs)
 
 module _ (low high c : ℕ) (at-least : low ≤ c) (less : c < high) where
+  -- a range that is left out does not hold c
   outside : (r : ℕ × ℕ) → (leb low (r .1) && ltb (r .0) high) ≡ false → (leb (r .0) c && leb c (r .1)) ≡ false
   outside r h =
       either (leb low (r .1))
       (λ e. let after : high ≤ r .0 = ltb-false (r .0) high (rw e at h) in rw (lt-leb (r .0) c (omega arith)))
       (λ e. let before : r .1 < low = leb-false low (r .1) e in rw (lt-leb c (r .1) (omega arith)) (and-false (leb (r .0) c)))
 
+  -- those that are kept are enough
   pub narrowed : (rs : List (ℕ × ℕ)) → inRanges (between low high rs) c ≡ inRanges rs c
   unfolding inRanges
   narrowed [] = refl

@@ -1,6 +1,6 @@
 -- A table in rows of 32 numbers gives what a search of its entries gives: one law, for any rows. Assumes nothing.
-use mathlib.Core.Path.{_≡_, refl, sym, _∙_, ap, subst}
-use mathlib.Core.Bool.{Bool, true, false, _&&_}
+use mathlib.Core.Path.{_≡_, refl, sym, _∙_, ap}
+use mathlib.Core.Bool.{Bool, true, _&&_}
 use mathlib.Core.List.{List, [], _∷_}
 use Prim.Native.Nat.{ℕ, zero, suc, _+_, _*_, _/_, _%_, _<_, _≤_}
 use native.Mathlib.Omega.{arith}
@@ -8,7 +8,7 @@ use lib.Dec.{T, leb, ltb, eqb, leb→le}
 use lib.ListN.{length, getD}
 use borrow.Author.Tests.{ltb-true, ltb-false, eqb-true, eqb-false, eq-eqb, ne-eqb}
 use types.Run.{OneOf}
-use Rattle.ucd.specs.Table.{classIn, pickText, pickNumber}
+use Rattle.ucd.specs.Table.{classIn, pickText}
 use Rattle.ucd.proofs.Tests.{either, both-left, both-right}
 
 -- the row of a number, the empty one where there is none
@@ -26,6 +26,7 @@ entriesOf n [] others = others
 entriesOf n (zero ∷ xs) others = entriesOf (suc n) xs others
 entriesOf n (suc x ∷ xs) others = (n, suc x) ∷ entriesOf (suc n) xs others
 
+-- the entries of all rows
 abbrev pub entries : List (ℕ × List ℕ) → List (ℕ × ℕ)
 entries [] = []
 entries (r ∷ rs) = entriesOf (r .0 * 32) (r .1) (entries rs)
@@ -35,6 +36,7 @@ abbrev pub ascending : ℕ → List (ℕ × List ℕ) → Bool
 ascending k [] = true
 ascending k (r ∷ rs) = leb k (r .0) && (leb (length (r .1)) 32 && ascending (suc (r .0)) rs)
 
+-- the first entry is that of c, or it is another's
 found : (n v c : ℕ) (es : List (ℕ × ℕ)) → n ≡ c → classIn ((n, v) ∷ es) c ≡ v
 unfolding classIn
 found n v c es e = rw (eq-eqb n c e)
@@ -66,6 +68,7 @@ within n (suc x ∷ xs) others zero c e h = found n (suc x) c (entriesOf (suc n)
 within n (suc x ∷ xs) others (suc i) c e h =
     missed n (suc x) c (entriesOf (suc n) xs others) (omega arith) ∙ within (suc n) xs others i c (omega arith) h
 
+-- what the order of the rows says of the first, and of the rest
 module _ (k : ℕ) (r : ℕ × List ℕ) (rs : List (ℕ × List ℕ)) (h : T (ascending k (r ∷ rs))) where
   first-at-least : k ≤ r .0
   first-at-least = leb→le k (r .0) (both-left (leb k (r .0)) (leb (length (r .1)) 32 && ascending (suc (r .0)) rs) h)
@@ -89,6 +92,7 @@ below-all k (r ∷ rs) h c l =
     let m : k ≤ r .0 = first-at-least k r rs h in
     below (r .0 * 32) (r .1) (entries rs) c (omega arith) ∙ below-all (suc (r .0)) rs (rest-ascends k r rs h) c (omega arith)
 
+-- the rows hold at each number what a search of their entries finds
 pub number-at : (k : ℕ) (rs : List (ℕ × List ℕ)) → T (ascending k rs) → (c : ℕ) → numberAt rs c ≡ classIn (entries rs) c
 unfolding classIn
 number-at k [] h c = refl
@@ -108,21 +112,22 @@ number-at k (r ∷ rs) h c =
         let s : length (r .1) ≤ 32 = short k r rs h in
         above (r .0 * 32) (r .1) (entries rs) c (omega arith))
 
--- what the code reads: an arm of a match on n / 32 has its row, and the last arm reads none
-
+-- what an arm of a match on n / 32 reads
 pub row-read : (rs : List (ℕ × List ℕ)) (n k : ℕ) → n / 32 ≡ k → getD (rowIn rs k) (n % 32) 0 ≡ numberAt rs n
 row-read rs n k e = ap (λ (m : ℕ). getD (rowIn rs m) (n % 32) 0) (sym e)
 
--- A, and k is the number of no row, as a match tells its last arm
+-- A holds, and k is the number of no row, as a match tells its last arm
 abbrev pub NoRow : Type 0 → List (ℕ × List ℕ) → ℕ → Type 0
 NoRow A [] k = A
 NoRow A (r ∷ rs) k = NoRow (A × (OneOf (r .0 ∷ []) k → ⊥)) rs k
 
+-- then A holds, and there is no such row
 no-row : (A : Type 0) (rs : List (ℕ × List ℕ)) (k : ℕ) → NoRow A rs k → A × (rowIn rs k ≡ [])
 no-row A [] k h = (h, refl)
 no-row A (r ∷ rs) k h =
     let (before, after) = no-row (A × (OneOf (r .0 ∷ []) k → ⊥)) rs k h in
     (before .0, rw (ne-eqb (r .0) k (λ e. before .1 (sym e))) after)
 
+-- so the last arm's 0 is what the rows hold
 pub no-row-read : (rs : List (ℕ × List ℕ)) (n : ℕ) → NoRow (Unit {0}) rs (n / 32) → 0 ≡ numberAt rs n
 no-row-read rs n h = rw (no-row (Unit {0}) rs (n / 32) h .1)

@@ -207,5 +207,6 @@ classes16 =
 unfoldable pub exclusions16 : List ℕ
 exclusions16 = []
 
+-- the table
 unfoldable pub unicode16 : Table
 unicode16 = record { ranges = ranges16; mappings = mappings16; classes = classes16; exclusions = exclusions16; depth = 2 }

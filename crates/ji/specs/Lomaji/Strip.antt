@@ -5,24 +5,19 @@ use Prim.Native.Nat.{ℕ, _-_}
 use lib.Dec.{eqb}
 use lib.ListN.{length, drop}
 use Rattle.ucd.specs.Table.{Table, pickText, same}
-use Rattle.ji.specs.Text.{point, lower}
+use Rattle.ji.specs.Text.{lower}
 use Rattle.ji.specs.Utf8.{encode, bytes}
 use Rattle.ji.specs.Nfd.{nfd}
-use Rattle.ji.specs.Tone.{pickTone}
+use Rattle.ji.specs.Tone.{pickTone, isTone, toneNumber}
+use Rattle.ji.specs.Reply.{Reply, refused, placed, Checked, good, bad, checkText}
+use Rattle.ji.specs.declared.lomaji.strip.Strip.{Strip}
+use Rattle.ji.specs.declared.lomaji.strip.Strip.the-variants.{Done, Refused}
 use Rattle.ji.specs.declared.tone.Tone.{Tone}
 use Rattle.ji.specs.declared.tone.Tone.the-variants.{None, T1, T2, T3, T4, T5, T6, T7, T8, T9}
 
 -- "drop the marks 0301 (T2), 0300 (T3), 0302 (T5), 0303 (T6), 0304 (T7), 030D (T8), 0306 (T9)"
 abbrev pub toneMarks : List (ℕ × Tone)
-toneMarks =
-    (point "́", T2)
-    ∷ (point "̀", T3)
-    ∷ (point "̂", T5)
-    ∷ (point "̃", T6)
-    ∷ (point "̄", T7)
-    ∷ (point "̍", T8)
-    ∷ (point "̆", T9)
-    ∷ []
+toneMarks = (0x0301, T2) ∷ (0x0300, T3) ∷ (0x0302, T5) ∷ (0x0303, T6) ∷ (0x0304, T7) ∷ (0x030D, T8) ∷ (0x0306, T9) ∷ []
 
 abbrev pub toneIn : List (ℕ × Tone) → ℕ → Tone
 toneIn [] c = None
@@ -79,5 +74,28 @@ pub record Stripped : Type 0 where
 unfoldable pub stripped : List ℕ → Stripped
 stripped s = record { rest = withoutMarks s; tone = lastTone (unmarkedTone (encode (withoutMarks s))) (droppedMarks s) }
 
-unfoldable pub strip : Table → List ℕ → Stripped
+abbrev pub strip : Table → List ℕ → Stripped
 strip t s = stripped (nfd t s)
+
+-- ── the call
+-- the tone of the last mark, or the other where there was none
+abbrev pub toneOr : Tone → Tone → Tone
+toneOr last other = pickTone (isTone last) last other
+
+-- its reply to a text in NFD
+abbrev pub strippedReply : List ℕ → List ℕ → Reply
+strippedReply s buffer = placed (toneNumber (stripped s .tone)) (encode (stripped s .rest)) buffer
+
+-- its reply to a text that was checked, and to the bytes of a text
+abbrev pub stripOf : Table → Checked → List ℕ → Reply
+stripOf t (good s) buffer = strippedReply (nfd t s) buffer
+stripOf t (bad why) buffer = refused why buffer
+
+unfoldable pub stripCall : Table → List ℕ → List ℕ → Reply
+stripCall t text buffer = stripOf t (checkText t text) buffer
+
+-- the code's answer, and what it leaves in the buffer, as a reply
+abbrev pub stripReply : Strip → List ℕ → Reply
+stripReply (Done r) buffer =
+    record { code = 0; length = r .len .0; count = 0; body = 0; tone = toneNumber (r .tone); khin = 0; position = 0; buffer = buffer }
+stripReply (Refused why) buffer = refused why buffer

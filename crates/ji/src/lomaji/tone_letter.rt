@@ -1,8 +1,154 @@
 // The tone letter.
 use crate::unicode::CharLen;
+ghost use mathlib.Core.Path.{_≡_};
+ghost use mathlib.Core.List.{[], _∷_};
+ghost use Prim.Native.Nat.{_<_, _≤_};
+ghost use lib.ListN.{length, drop, getD};
+ghost use Rattle.ucd.specs.Table.{listed};
+ghost use Rattle.ji.specs.Text.{points, point, lower};
+ghost use Rattle.ji.specs.Lomaji.ToneLetter.{patterns, matches, toneLetter, placeOf};
 
 // Where a tone letter stands, in code points.
 pub(crate) enum Place {
     At(CharLen),
     Nowhere,
+}
+
+// The letters of the patterns, as code points.
+const A: u16 = b'a' as u16;
+
+const E: u16 = b'e' as u16;
+
+const G: u16 = b'g' as u16;
+
+const H: u16 = b'h' as u16;
+
+const I: u16 = b'i' as u16;
+
+const K: u16 = b'k' as u16;
+
+const M: u16 = b'm' as u16;
+
+const N: u16 = b'n' as u16;
+
+const O: u16 = b'o' as u16;
+
+const P: u16 = b'p' as u16;
+
+const T: u16 = b't' as u16;
+
+const U: u16 = b'u' as u16;
+
+// The patterns go by their numbers, in the order in which they are looked for: 0 is o, a or e, and a final; then o, a, e, u, i, ng, n and m.
+const PATTERNS: usize = 9;
+
+// The code point at `i` with its case ignored, and 0 past the end, which no pattern has.
+fn letter_at(s: &[u16], i: usize) -> u16
+    ensures { λ r. ⌜ r ≡ lower (getD (now (s .entry)) i 0) ⌝ }
+{
+    if s.len() <= i {
+        return 0;
+    }
+    let x = s[i];
+    if x < b'A' as u16 {
+        return x;
+    }
+    if (b'Z' as u16) < x {
+        return x;
+    }
+    x + 32
+}
+
+// The second letter of the first pattern, which is the tone letter.
+fn is_a_or_e(x: u16) -> bool
+    ensures { λ r. ⌜ r ≡ listed (points "ae") x ⌝ }
+{
+    match x {
+        A | E => true,
+        _ => false,
+    }
+}
+
+// The third letter of the first pattern.
+fn is_final(x: u16) -> bool
+    ensures { λ r. ⌜ r ≡ listed (points "ptkhmni") x ⌝ }
+{
+    match x {
+        P | T | K | H | M | N | I => true,
+        _ => false,
+    }
+}
+
+// Whether at `at` stands what follows the o of the first pattern.
+fn follows_o(s: &[u16], at: usize) -> bool
+    requires { ⌜ at ≤ length (now s) ⌝ }
+    ensures { λ r. ⌜ r ≡ matches ("ae" ∷ "ptkhmni" ∷ []) (drop at (now (s .entry))) ⌝ }
+{
+    if is_a_or_e(letter_at(s, at)) {
+        return is_final(letter_at(s, at + 1));
+    }
+    false
+}
+
+// The letter that pattern `k` begins with.
+fn first_of(k: usize) -> u16
+    requires { ⌜ k < 9 ⌝ }
+    ensures { λ r. ⌜ r ≡ point (getD (getD patterns k ([], 0) .0) 0 "") ⌝ }
+{
+    match k {
+        0 => O,
+        1 => O,
+        2 => A,
+        3 => E,
+        4 => U,
+        5 => I,
+        6 => N,
+        7 => N,
+        _ => M,
+    }
+}
+
+// Whether pattern `k` stands at `at`. Its first letter decides for nearly every place, so no other is read before that one fits.
+fn stands_at(s: &[u16], at: usize, k: usize) -> bool
+    requires { ⌜ (k < 9) × (at < length (now s)) ⌝ }
+    ensures { λ r. ⌜ r ≡ matches (getD patterns k ([], 0) .0) (drop at (now (s .entry))) ⌝ }
+{
+    if letter_at(s, at) != first_of(k) {
+        return false;
+    }
+    if k == 0 {
+        return follows_o(s, at + 1);
+    }
+    if k == 6 {
+        return letter_at(s, at + 1) == G;
+    }
+    true
+}
+
+// Which letter of pattern `k` is the tone letter: the second of the first pattern, the first of every other.
+fn letter_of(k: usize) -> usize
+    requires { ⌜ k < 9 ⌝ }
+    ensures { λ r. ⌜ (r ≡ getD patterns k ([], 0) .1) × (r ≤ 1) ⌝ }
+{
+    if k == 0 { 1 } else { 0 }
+}
+
+// The place of the tone letter: the first pattern that occurs, at its first place. Finding it ends the search over both.
+pub(crate) fn tone_position(s: &[u16]) -> Place
+    ensures { λ r. ⌜ placeOf r ≡ toneLetter (now (s .entry)) ⌝ }
+{
+    let mut place = Place::Nowhere;
+    let mut k: usize = 0;
+    'patterns: while k < PATTERNS {
+        let mut at: usize = 0;
+        while at < s.len() {
+            if stands_at(s, at, k) {
+                place = Place::At(CharLen(at + letter_of(k)));
+                break 'patterns;
+            }
+            at += 1;
+        }
+        k += 1;
+    }
+    place
 }

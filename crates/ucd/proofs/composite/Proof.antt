@@ -1,11 +1,9 @@
 -- `ucd::composite` meets its contract: only a mark of 0300 to 0338 ends a composite, and the candidate is one exactly if its decomposition is
 -- the two code points. Assumes nothing.
-use mathlib.Core.Path.{sym, _∙_, ap}
 use native.Mathlib.Omega.{arith}
 use borrow.Author.Needs.{needs}
-use Rattle.ucd.specs.Answer.{textOf}
 use Rattle.ucd.proofs.Unicode16.{no-composite}
-use Rattle.ucd.proofs.Answer.{verified-one, verified-two, verified-first, verified-second}
+use Rattle.ucd.proofs.Answer.{made-itself, made-one, made-two, made-other-first, made-other-second}
 use Rattle.ucd.proofs.composite.Statement.{statement}
 use Rattle.ucd.proofs.composite.Tie as tie
 
@@ -36,28 +34,27 @@ returns-3 c =
     let looked = known .before .before in
     let found = looked .before in
     let start = found .before .before .before in
-    verified-two (start .args .a) (start .args .b) (found .candidate .result) (known .first .given .0 .0) (known .first .given .0 .1 .0)
-    (sym (looked .decomposition .ensures) ∙ ap (textOf (found .candidate .result)) (known .first .given .1))
-    (c .before .if3 .taken) (c .if4 .taken) ∙
-    found .candidate .ensures
+    made-two (start .args .a) (start .args .b) (found .candidate .result) (looked .decomposition .result)
+    (looked .decomposition .ensures) (found .candidate .ensures)
+    (known .first .given .0 .0) (known .first .given .0 .1 .0) (known .first .given .1) (c .before .if3 .taken) (c .if4 .taken)
 
 returns-4 : tie.Need-returns-4
 returns-4 c =
     let looked = c .before .before in
     let found = looked .before in
     let start = found .before .before .before in
-    verified-one (start .args .a) (start .args .b) (found .candidate .result) (found .candidate .result)
-    (sym (looked .decomposition .ensures) ∙ ap (textOf (found .candidate .result)) (c .enum-told .given .1)) ∙
-    found .candidate .ensures
+    made-itself (start .args .a) (start .args .b) (found .candidate .result) (looked .decomposition .result)
+    (looked .decomposition .ensures) (found .candidate .ensures)
+    (c .enum-told .given .1)
 
 returns-5 : tie.Need-returns-5
 returns-5 c =
     let looked = c .before .before in
     let found = looked .before in
     let start = found .before .before .before in
-    verified-one (start .args .a) (start .args .b) (found .candidate .result) (c .enum-told2 .given .0 .0)
-    (sym (looked .decomposition .ensures) ∙ ap (textOf (found .candidate .result)) (c .enum-told2 .given .1)) ∙
-    found .candidate .ensures
+    made-one (start .args .a) (start .args .b) (found .candidate .result) (looked .decomposition .result)
+    (looked .decomposition .ensures) (found .candidate .ensures)
+    (c .enum-told2 .given .0 .0) (c .enum-told2 .given .1)
 
 returns-6 : tie.Need-returns-6
 returns-6 c =
@@ -65,10 +62,9 @@ returns-6 c =
     let looked = known .before .before in
     let found = looked .before in
     let start = found .before .before .before in
-    verified-second (start .args .a) (start .args .b) (found .candidate .result) (known .first .given .0 .0) (known .first .given .0 .1 .0)
-    (sym (looked .decomposition .ensures) ∙ ap (textOf (found .candidate .result)) (known .first .given .1))
-    (c .before .if3 .taken) (c .if4 .left) ∙
-    found .candidate .ensures
+    made-other-second (start .args .a) (start .args .b) (found .candidate .result) (looked .decomposition .result)
+    (looked .decomposition .ensures) (found .candidate .ensures)
+    (known .first .given .0 .0) (known .first .given .0 .1 .0) (known .first .given .1) (c .before .if3 .taken) (c .if4 .left)
 
 returns-7 : tie.Need-returns-7
 returns-7 c =
@@ -76,10 +72,9 @@ returns-7 c =
     let looked = known .before .before in
     let found = looked .before in
     let start = found .before .before .before in
-    verified-first (start .args .a) (start .args .b) (found .candidate .result) (known .first .given .0 .0) (known .first .given .0 .1 .0)
-    (sym (looked .decomposition .ensures) ∙ ap (textOf (found .candidate .result)) (known .first .given .1))
-    (c .if3 .left) ∙
-    found .candidate .ensures
+    made-other-first (start .args .a) (start .args .b) (found .candidate .result) (looked .decomposition .result)
+    (looked .decomposition .ensures) (found .candidate .ensures)
+    (known .first .given .0 .0) (known .first .given .0 .1 .0) (known .first .given .1) (c .if3 .left)
 
 pub composite-spec : {M : Type 1} → statement M
 composite-spec =

@@ -1,9 +1,7 @@
 -- `ucd::is_member` meets its contract: each return answers for the ranges that reach between the bounds that are known there. Assumes nothing.
-use mathlib.Core.Path.{sym, _∙_, ap}
-use Prim.Native.Nat.{ℕ, _<_, _≤_}
+use mathlib.Core.Path.{_∙_}
 use native.Mathlib.Omega.{arith}
-use borrow.Author.Tests.{le-leb}
-use Rattle.ucd.specs.Table.{member, inRanges}
+use Rattle.ucd.specs.Table.{member}
 use Rattle.ucd.specs.Unicode16.{unicode16, ranges16}
 use Rattle.ucd.proofs.Ranges.{narrowed, whole, up-to, alone}
 use Rattle.ucd.proofs.is_member.Statement.{statement}

@@ -2,7 +2,7 @@
 -- `ucd::table::candidate` meets its contract: its matches read the rows of the quick form. Assumes nothing.
 use mathlib.Core.Path.{_≡_, _∙_}
 use mathlib.Core.Logic.{⊎-elim}
-use borrow.Author.Needs.{needs}
+use native.Mathlib.Omega.{arith}
 use Rattle.ucd.proofs.RowData.{displacementNumbers, candidateNumbers}
 use Rattle.ucd.proofs.RowLaw.{numberAt}
 use Rattle.ucd.proofs.Rows.{displacement-arm, displacement-rest, candidate-arm, candidate-rest}
@@ -12,205 +12,205 @@ use Rattle.ucd.proofs.table.candidate.Statement.{statement}
 use Rattle.ucd.proofs.table.candidate.Tie as tie
 
 cast-mark : tie.Need-cast-mark
-cast-mark c = search needs
+cast-mark c = omega arith
 
 mul-displacement : tie.Need-mul-displacement
-mul-displacement c = search needs
+mul-displacement c = omega arith
 
 array-read-displacement : tie.Need-array-read-displacement
-array-read-displacement c = search needs
+array-read-displacement c = omega arith
 
 mul-displacement-2 : tie.Need-mul-displacement-2
-mul-displacement-2 c = search needs
+mul-displacement-2 c = omega arith
 
 array-read-displacement-2 : tie.Need-array-read-displacement-2
-array-read-displacement-2 c = search needs
+array-read-displacement-2 c = omega arith
 
 cast-place : tie.Need-cast-place
-cast-place c = search needs
+cast-place c = omega arith
 
 add-place : tie.Need-add-place
-add-place c = search needs
+add-place c = omega arith
 
 mul-result : tie.Need-mul-result
-mul-result c = search needs
+mul-result c = omega arith
 
 array-read-result : tie.Need-array-read-result
-array-read-result c = search needs
+array-read-result c = omega arith
 
 mul-result-2 : tie.Need-mul-result-2
-mul-result-2 c = search needs
+mul-result-2 c = omega arith
 
 array-read-result-2 : tie.Need-array-read-result-2
-array-read-result-2 c = search needs
+array-read-result-2 c = omega arith
 
 mul-result-3 : tie.Need-mul-result-3
-mul-result-3 c = search needs
+mul-result-3 c = omega arith
 
 array-read-result-3 : tie.Need-array-read-result-3
-array-read-result-3 c = search needs
+array-read-result-3 c = omega arith
 
 mul-result-4 : tie.Need-mul-result-4
-mul-result-4 c = search needs
+mul-result-4 c = omega arith
 
 array-read-result-4 : tie.Need-array-read-result-4
-array-read-result-4 c = search needs
+array-read-result-4 c = omega arith
 
 mul-result-5 : tie.Need-mul-result-5
-mul-result-5 c = search needs
+mul-result-5 c = omega arith
 
 array-read-result-5 : tie.Need-array-read-result-5
-array-read-result-5 c = search needs
+array-read-result-5 c = omega arith
 
 mul-result-6 : tie.Need-mul-result-6
-mul-result-6 c = search needs
+mul-result-6 c = omega arith
 
 array-read-result-6 : tie.Need-array-read-result-6
-array-read-result-6 c = search needs
+array-read-result-6 c = omega arith
 
 mul-result-7 : tie.Need-mul-result-7
-mul-result-7 c = search needs
+mul-result-7 c = omega arith
 
 array-read-result-7 : tie.Need-array-read-result-7
-array-read-result-7 c = search needs
+array-read-result-7 c = omega arith
 
 mul-result-8 : tie.Need-mul-result-8
-mul-result-8 c = search needs
+mul-result-8 c = omega arith
 
 array-read-result-8 : tie.Need-array-read-result-8
-array-read-result-8 c = search needs
+array-read-result-8 c = omega arith
 
 mul-result-9 : tie.Need-mul-result-9
-mul-result-9 c = search needs
+mul-result-9 c = omega arith
 
 array-read-result-9 : tie.Need-array-read-result-9
-array-read-result-9 c = search needs
+array-read-result-9 c = omega arith
 
 mul-result-10 : tie.Need-mul-result-10
-mul-result-10 c = search needs
+mul-result-10 c = omega arith
 
 array-read-result-10 : tie.Need-array-read-result-10
-array-read-result-10 c = search needs
+array-read-result-10 c = omega arith
 
 mul-result-11 : tie.Need-mul-result-11
-mul-result-11 c = search needs
+mul-result-11 c = omega arith
 
 array-read-result-11 : tie.Need-array-read-result-11
-array-read-result-11 c = search needs
+array-read-result-11 c = omega arith
 
 mul-result-12 : tie.Need-mul-result-12
-mul-result-12 c = search needs
+mul-result-12 c = omega arith
 
 array-read-result-12 : tie.Need-array-read-result-12
-array-read-result-12 c = search needs
+array-read-result-12 c = omega arith
 
 mul-result-13 : tie.Need-mul-result-13
-mul-result-13 c = search needs
+mul-result-13 c = omega arith
 
 array-read-result-13 : tie.Need-array-read-result-13
-array-read-result-13 c = search needs
+array-read-result-13 c = omega arith
 
 mul-result-14 : tie.Need-mul-result-14
-mul-result-14 c = search needs
+mul-result-14 c = omega arith
 
 array-read-result-14 : tie.Need-array-read-result-14
-array-read-result-14 c = search needs
+array-read-result-14 c = omega arith
 
 mul-result-15 : tie.Need-mul-result-15
-mul-result-15 c = search needs
+mul-result-15 c = omega arith
 
 array-read-result-15 : tie.Need-array-read-result-15
-array-read-result-15 c = search needs
+array-read-result-15 c = omega arith
 
 mul-result-16 : tie.Need-mul-result-16
-mul-result-16 c = search needs
+mul-result-16 c = omega arith
 
 array-read-result-16 : tie.Need-array-read-result-16
-array-read-result-16 c = search needs
+array-read-result-16 c = omega arith
 
 mul-result-17 : tie.Need-mul-result-17
-mul-result-17 c = search needs
+mul-result-17 c = omega arith
 
 array-read-result-17 : tie.Need-array-read-result-17
-array-read-result-17 c = search needs
+array-read-result-17 c = omega arith
 
 mul-result-18 : tie.Need-mul-result-18
-mul-result-18 c = search needs
+mul-result-18 c = omega arith
 
 array-read-result-18 : tie.Need-array-read-result-18
-array-read-result-18 c = search needs
+array-read-result-18 c = omega arith
 
 mul-result-19 : tie.Need-mul-result-19
-mul-result-19 c = search needs
+mul-result-19 c = omega arith
 
 array-read-result-19 : tie.Need-array-read-result-19
-array-read-result-19 c = search needs
+array-read-result-19 c = omega arith
 
 mul-result-20 : tie.Need-mul-result-20
-mul-result-20 c = search needs
+mul-result-20 c = omega arith
 
 array-read-result-20 : tie.Need-array-read-result-20
-array-read-result-20 c = search needs
+array-read-result-20 c = omega arith
 
 mul-result-21 : tie.Need-mul-result-21
-mul-result-21 c = search needs
+mul-result-21 c = omega arith
 
 array-read-result-21 : tie.Need-array-read-result-21
-array-read-result-21 c = search needs
+array-read-result-21 c = omega arith
 
 mul-result-22 : tie.Need-mul-result-22
-mul-result-22 c = search needs
+mul-result-22 c = omega arith
 
 array-read-result-22 : tie.Need-array-read-result-22
-array-read-result-22 c = search needs
+array-read-result-22 c = omega arith
 
 mul-result-23 : tie.Need-mul-result-23
-mul-result-23 c = search needs
+mul-result-23 c = omega arith
 
 array-read-result-23 : tie.Need-array-read-result-23
-array-read-result-23 c = search needs
+array-read-result-23 c = omega arith
 
 mul-result-24 : tie.Need-mul-result-24
-mul-result-24 c = search needs
+mul-result-24 c = omega arith
 
 array-read-result-24 : tie.Need-array-read-result-24
-array-read-result-24 c = search needs
+array-read-result-24 c = omega arith
 
 mul-result-25 : tie.Need-mul-result-25
-mul-result-25 c = search needs
+mul-result-25 c = omega arith
 
 array-read-result-25 : tie.Need-array-read-result-25
-array-read-result-25 c = search needs
+array-read-result-25 c = omega arith
 
 mul-result-26 : tie.Need-mul-result-26
-mul-result-26 c = search needs
+mul-result-26 c = omega arith
 
 array-read-result-26 : tie.Need-array-read-result-26
-array-read-result-26 c = search needs
+array-read-result-26 c = omega arith
 
 mul-result-27 : tie.Need-mul-result-27
-mul-result-27 c = search needs
+mul-result-27 c = omega arith
 
 array-read-result-27 : tie.Need-array-read-result-27
-array-read-result-27 c = search needs
+array-read-result-27 c = omega arith
 
 mul-result-28 : tie.Need-mul-result-28
-mul-result-28 c = search needs
+mul-result-28 c = omega arith
 
 array-read-result-28 : tie.Need-array-read-result-28
-array-read-result-28 c = search needs
+array-read-result-28 c = omega arith
 
 mul-result-29 : tie.Need-mul-result-29
-mul-result-29 c = search needs
+mul-result-29 c = omega arith
 
 array-read-result-29 : tie.Need-array-read-result-29
-array-read-result-29 c = search needs
+array-read-result-29 c = omega arith
 
 mul-result-30 : tie.Need-mul-result-30
-mul-result-30 c = search needs
+mul-result-30 c = omega arith
 
 array-read-result-30 : tie.Need-array-read-result-30
-array-read-result-30 c = search needs
+array-read-result-30 c = omega arith
 
 -- the first match reads the displacement of b
 displaced : (c : lts.After-row-known reads.Pre reads.Post)
@@ -224,127 +224,189 @@ displaced c =
 
 returns : tie.Need-returns
 unfolding candidateNumbers
-returns c = candidate-arm (c .before .before .before .args .a) (c .before .before .before .args .b) (c .before .before .match .displacement) (displaced (c .before)) 1 (c .match2 .keys1)
+returns c =
+    candidate-arm (c .before .before .before .args .a) (c .before .before .before .args .b) (c .before .before .match .displacement) (displaced (c .before))
+    1 (c .match2 .keys1)
 
 returns-2 : tie.Need-returns-2
 unfolding candidateNumbers
-returns-2 c = candidate-arm (c .before .before .before .args .a) (c .before .before .before .args .b) (c .before .before .match .displacement) (displaced (c .before)) 2 (c .match2 .keys2)
+returns-2 c =
+    candidate-arm (c .before .before .before .args .a) (c .before .before .before .args .b) (c .before .before .match .displacement) (displaced (c .before))
+    2 (c .match2 .keys2)
 
 returns-3 : tie.Need-returns-3
 unfolding candidateNumbers
-returns-3 c = candidate-arm (c .before .before .before .args .a) (c .before .before .before .args .b) (c .before .before .match .displacement) (displaced (c .before)) 3 (c .match2 .keys3)
+returns-3 c =
+    candidate-arm (c .before .before .before .args .a) (c .before .before .before .args .b) (c .before .before .match .displacement) (displaced (c .before))
+    3 (c .match2 .keys3)
 
 returns-4 : tie.Need-returns-4
 unfolding candidateNumbers
-returns-4 c = candidate-arm (c .before .before .before .args .a) (c .before .before .before .args .b) (c .before .before .match .displacement) (displaced (c .before)) 4 (c .match2 .keys4)
+returns-4 c =
+    candidate-arm (c .before .before .before .args .a) (c .before .before .before .args .b) (c .before .before .match .displacement) (displaced (c .before))
+    4 (c .match2 .keys4)
 
 returns-5 : tie.Need-returns-5
 unfolding candidateNumbers
-returns-5 c = candidate-arm (c .before .before .before .args .a) (c .before .before .before .args .b) (c .before .before .match .displacement) (displaced (c .before)) 5 (c .match2 .keys5)
+returns-5 c =
+    candidate-arm (c .before .before .before .args .a) (c .before .before .before .args .b) (c .before .before .match .displacement) (displaced (c .before))
+    5 (c .match2 .keys5)
 
 returns-6 : tie.Need-returns-6
 unfolding candidateNumbers
-returns-6 c = candidate-arm (c .before .before .before .args .a) (c .before .before .before .args .b) (c .before .before .match .displacement) (displaced (c .before)) 6 (c .match2 .keys6)
+returns-6 c =
+    candidate-arm (c .before .before .before .args .a) (c .before .before .before .args .b) (c .before .before .match .displacement) (displaced (c .before))
+    6 (c .match2 .keys6)
 
 returns-7 : tie.Need-returns-7
 unfolding candidateNumbers
-returns-7 c = candidate-arm (c .before .before .before .args .a) (c .before .before .before .args .b) (c .before .before .match .displacement) (displaced (c .before)) 7 (c .match2 .keys7)
+returns-7 c =
+    candidate-arm (c .before .before .before .args .a) (c .before .before .before .args .b) (c .before .before .match .displacement) (displaced (c .before))
+    7 (c .match2 .keys7)
 
 returns-8 : tie.Need-returns-8
 unfolding candidateNumbers
-returns-8 c = candidate-arm (c .before .before .before .args .a) (c .before .before .before .args .b) (c .before .before .match .displacement) (displaced (c .before)) 8 (c .match2 .keys8)
+returns-8 c =
+    candidate-arm (c .before .before .before .args .a) (c .before .before .before .args .b) (c .before .before .match .displacement) (displaced (c .before))
+    8 (c .match2 .keys8)
 
 returns-9 : tie.Need-returns-9
 unfolding candidateNumbers
-returns-9 c = candidate-arm (c .before .before .before .args .a) (c .before .before .before .args .b) (c .before .before .match .displacement) (displaced (c .before)) 9 (c .match2 .keys9)
+returns-9 c =
+    candidate-arm (c .before .before .before .args .a) (c .before .before .before .args .b) (c .before .before .match .displacement) (displaced (c .before))
+    9 (c .match2 .keys9)
 
 returns-10 : tie.Need-returns-10
 unfolding candidateNumbers
-returns-10 c = candidate-arm (c .before .before .before .args .a) (c .before .before .before .args .b) (c .before .before .match .displacement) (displaced (c .before)) 10 (c .match2 .keys10)
+returns-10 c =
+    candidate-arm (c .before .before .before .args .a) (c .before .before .before .args .b) (c .before .before .match .displacement) (displaced (c .before))
+    10 (c .match2 .keys10)
 
 returns-11 : tie.Need-returns-11
 unfolding candidateNumbers
-returns-11 c = candidate-arm (c .before .before .before .args .a) (c .before .before .before .args .b) (c .before .before .match .displacement) (displaced (c .before)) 11 (c .match2 .keys11)
+returns-11 c =
+    candidate-arm (c .before .before .before .args .a) (c .before .before .before .args .b) (c .before .before .match .displacement) (displaced (c .before))
+    11 (c .match2 .keys11)
 
 returns-12 : tie.Need-returns-12
 unfolding candidateNumbers
-returns-12 c = candidate-arm (c .before .before .before .args .a) (c .before .before .before .args .b) (c .before .before .match .displacement) (displaced (c .before)) 12 (c .match2 .keys12)
+returns-12 c =
+    candidate-arm (c .before .before .before .args .a) (c .before .before .before .args .b) (c .before .before .match .displacement) (displaced (c .before))
+    12 (c .match2 .keys12)
 
 returns-13 : tie.Need-returns-13
 unfolding candidateNumbers
-returns-13 c = candidate-arm (c .before .before .before .args .a) (c .before .before .before .args .b) (c .before .before .match .displacement) (displaced (c .before)) 13 (c .match2 .keys13)
+returns-13 c =
+    candidate-arm (c .before .before .before .args .a) (c .before .before .before .args .b) (c .before .before .match .displacement) (displaced (c .before))
+    13 (c .match2 .keys13)
 
 returns-14 : tie.Need-returns-14
 unfolding candidateNumbers
-returns-14 c = candidate-arm (c .before .before .before .args .a) (c .before .before .before .args .b) (c .before .before .match .displacement) (displaced (c .before)) 14 (c .match2 .keys14)
+returns-14 c =
+    candidate-arm (c .before .before .before .args .a) (c .before .before .before .args .b) (c .before .before .match .displacement) (displaced (c .before))
+    14 (c .match2 .keys14)
 
 returns-15 : tie.Need-returns-15
 unfolding candidateNumbers
-returns-15 c = candidate-arm (c .before .before .before .args .a) (c .before .before .before .args .b) (c .before .before .match .displacement) (displaced (c .before)) 15 (c .match2 .keys15)
+returns-15 c =
+    candidate-arm (c .before .before .before .args .a) (c .before .before .before .args .b) (c .before .before .match .displacement) (displaced (c .before))
+    15 (c .match2 .keys15)
 
 returns-16 : tie.Need-returns-16
 unfolding candidateNumbers
-returns-16 c = candidate-arm (c .before .before .before .args .a) (c .before .before .before .args .b) (c .before .before .match .displacement) (displaced (c .before)) 16 (c .match2 .keys16)
+returns-16 c =
+    candidate-arm (c .before .before .before .args .a) (c .before .before .before .args .b) (c .before .before .match .displacement) (displaced (c .before))
+    16 (c .match2 .keys16)
 
 returns-17 : tie.Need-returns-17
 unfolding candidateNumbers
-returns-17 c = candidate-arm (c .before .before .before .args .a) (c .before .before .before .args .b) (c .before .before .match .displacement) (displaced (c .before)) 17 (c .match2 .keys17)
+returns-17 c =
+    candidate-arm (c .before .before .before .args .a) (c .before .before .before .args .b) (c .before .before .match .displacement) (displaced (c .before))
+    17 (c .match2 .keys17)
 
 returns-18 : tie.Need-returns-18
 unfolding candidateNumbers
-returns-18 c = candidate-arm (c .before .before .before .args .a) (c .before .before .before .args .b) (c .before .before .match .displacement) (displaced (c .before)) 18 (c .match2 .keys18)
+returns-18 c =
+    candidate-arm (c .before .before .before .args .a) (c .before .before .before .args .b) (c .before .before .match .displacement) (displaced (c .before))
+    18 (c .match2 .keys18)
 
 returns-19 : tie.Need-returns-19
 unfolding candidateNumbers
-returns-19 c = candidate-arm (c .before .before .before .args .a) (c .before .before .before .args .b) (c .before .before .match .displacement) (displaced (c .before)) 19 (c .match2 .keys19)
+returns-19 c =
+    candidate-arm (c .before .before .before .args .a) (c .before .before .before .args .b) (c .before .before .match .displacement) (displaced (c .before))
+    19 (c .match2 .keys19)
 
 returns-20 : tie.Need-returns-20
 unfolding candidateNumbers
-returns-20 c = candidate-arm (c .before .before .before .args .a) (c .before .before .before .args .b) (c .before .before .match .displacement) (displaced (c .before)) 20 (c .match2 .keys20)
+returns-20 c =
+    candidate-arm (c .before .before .before .args .a) (c .before .before .before .args .b) (c .before .before .match .displacement) (displaced (c .before))
+    20 (c .match2 .keys20)
 
 returns-21 : tie.Need-returns-21
 unfolding candidateNumbers
-returns-21 c = candidate-arm (c .before .before .before .args .a) (c .before .before .before .args .b) (c .before .before .match .displacement) (displaced (c .before)) 21 (c .match2 .keys21)
+returns-21 c =
+    candidate-arm (c .before .before .before .args .a) (c .before .before .before .args .b) (c .before .before .match .displacement) (displaced (c .before))
+    21 (c .match2 .keys21)
 
 returns-22 : tie.Need-returns-22
 unfolding candidateNumbers
-returns-22 c = candidate-arm (c .before .before .before .args .a) (c .before .before .before .args .b) (c .before .before .match .displacement) (displaced (c .before)) 22 (c .match2 .keys22)
+returns-22 c =
+    candidate-arm (c .before .before .before .args .a) (c .before .before .before .args .b) (c .before .before .match .displacement) (displaced (c .before))
+    22 (c .match2 .keys22)
 
 returns-23 : tie.Need-returns-23
 unfolding candidateNumbers
-returns-23 c = candidate-arm (c .before .before .before .args .a) (c .before .before .before .args .b) (c .before .before .match .displacement) (displaced (c .before)) 23 (c .match2 .keys23)
+returns-23 c =
+    candidate-arm (c .before .before .before .args .a) (c .before .before .before .args .b) (c .before .before .match .displacement) (displaced (c .before))
+    23 (c .match2 .keys23)
 
 returns-24 : tie.Need-returns-24
 unfolding candidateNumbers
-returns-24 c = candidate-arm (c .before .before .before .args .a) (c .before .before .before .args .b) (c .before .before .match .displacement) (displaced (c .before)) 24 (c .match2 .keys24)
+returns-24 c =
+    candidate-arm (c .before .before .before .args .a) (c .before .before .before .args .b) (c .before .before .match .displacement) (displaced (c .before))
+    24 (c .match2 .keys24)
 
 returns-25 : tie.Need-returns-25
 unfolding candidateNumbers
-returns-25 c = candidate-arm (c .before .before .before .args .a) (c .before .before .before .args .b) (c .before .before .match .displacement) (displaced (c .before)) 25 (c .match2 .keys25)
+returns-25 c =
+    candidate-arm (c .before .before .before .args .a) (c .before .before .before .args .b) (c .before .before .match .displacement) (displaced (c .before))
+    25 (c .match2 .keys25)
 
 returns-26 : tie.Need-returns-26
 unfolding candidateNumbers
-returns-26 c = candidate-arm (c .before .before .before .args .a) (c .before .before .before .args .b) (c .before .before .match .displacement) (displaced (c .before)) 26 (c .match2 .keys26)
+returns-26 c =
+    candidate-arm (c .before .before .before .args .a) (c .before .before .before .args .b) (c .before .before .match .displacement) (displaced (c .before))
+    26 (c .match2 .keys26)
 
 returns-27 : tie.Need-returns-27
 unfolding candidateNumbers
-returns-27 c = candidate-arm (c .before .before .before .args .a) (c .before .before .before .args .b) (c .before .before .match .displacement) (displaced (c .before)) 27 (c .match2 .keys27)
+returns-27 c =
+    candidate-arm (c .before .before .before .args .a) (c .before .before .before .args .b) (c .before .before .match .displacement) (displaced (c .before))
+    27 (c .match2 .keys27)
 
 returns-28 : tie.Need-returns-28
 unfolding candidateNumbers
-returns-28 c = candidate-arm (c .before .before .before .args .a) (c .before .before .before .args .b) (c .before .before .match .displacement) (displaced (c .before)) 28 (c .match2 .keys28)
+returns-28 c =
+    candidate-arm (c .before .before .before .args .a) (c .before .before .before .args .b) (c .before .before .match .displacement) (displaced (c .before))
+    28 (c .match2 .keys28)
 
 returns-29 : tie.Need-returns-29
 unfolding candidateNumbers
-returns-29 c = candidate-arm (c .before .before .before .args .a) (c .before .before .before .args .b) (c .before .before .match .displacement) (displaced (c .before)) 29 (c .match2 .keys29)
+returns-29 c =
+    candidate-arm (c .before .before .before .args .a) (c .before .before .before .args .b) (c .before .before .match .displacement) (displaced (c .before))
+    29 (c .match2 .keys29)
 
 returns-30 : tie.Need-returns-30
 unfolding candidateNumbers
-returns-30 c = candidate-arm (c .before .before .before .args .a) (c .before .before .before .args .b) (c .before .before .match .displacement) (displaced (c .before)) 30 (c .match2 .keys30)
+returns-30 c =
+    candidate-arm (c .before .before .before .args .a) (c .before .before .before .args .b) (c .before .before .match .displacement) (displaced (c .before))
+    30 (c .match2 .keys30)
 
 returns-31 : tie.Need-returns-31
 unfolding candidateNumbers
-returns-31 c = candidate-rest (c .before .before .before .args .a) (c .before .before .before .args .b) (c .before .before .match .displacement) (displaced (c .before)) (c .match2 .rest)
+returns-31 c =
+    candidate-rest (c .before .before .before .args .a) (c .before .before .before .args .b) (c .before .before .match .displacement) (displaced (c .before))
+    (c .match2 .rest)
 
 pub candidate-spec : {M : Type 1} → statement M
 candidate-spec =

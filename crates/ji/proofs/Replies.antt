@@ -1,0 +1,34 @@
+-- Replies, case by case: where a text is refused, and where an output has room.
+use mathlib.Core.Path.{_≡_, sym, ap, _∙_}
+use mathlib.Core.Bool.{Bool}
+use mathlib.Core.List.{List}
+use mathlib.Core.Option.{Option}
+use Prim.Native.Nat.{ℕ, _≤_, _<_}
+use lib.ListN.{length}
+use borrow.Author.Tests.{le-leb, lt-leb}
+use Rattle.ucd.specs.Table.{Table}
+use Rattle.ji.specs.Written.{Written}
+use Rattle.ji.specs.Utf8.{decode}
+use Rattle.ji.specs.Reply.{Reply, refused, over, answered, pickReply, placed, Checked, bad, pickChecked, checkPoints, checkText}
+use Rattle.ji.specs.declared.reply.Refusal.the-variants.{TooLong, NoRoom}
+
+module _ (tone : ℕ) (output buffer : List ℕ) where
+  pub placed-not : length buffer < length output → refused NoRoom buffer ≡ placed tone output buffer
+  placed-not h = sym (ap (λ (b : Bool). pickReply b (answered tone output buffer) (refused NoRoom buffer)) (lt-leb (length output) (length buffer) h))
+
+  placed-whole : length output ≤ length buffer → answered tone output buffer ≡ placed tone output buffer
+  placed-whole h = sym (ap (λ (b : Bool). pickReply b (answered tone output buffer) (refused NoRoom buffer)) (le-leb (length output) (length buffer) h))
+
+  -- what a writer left in the buffer is the answer
+  pub placed-written : (n : ℕ) (after : List ℕ) → Written buffer after n output
+      → _≡_ {A = Reply} (record { code = 0; length = n; count = 0; body = 0; tone = tone; khin = 0; position = 0; buffer = after }) (placed tone output buffer)
+  placed-written n after w = rw (w .is, ← w .size) (placed-whole (rw (w .size) (w .fits)))
+
+module _ (t : Table) (s : List ℕ) where
+  pub check-long : 256 < length s → checkText t s ≡ bad TooLong
+  unfolding checkText
+  check-long h = ap (λ (b : Bool). pickChecked b (checkPoints t (decode s)) (bad TooLong)) (lt-leb (length s) 256 h)
+
+  pub check-within : length s ≤ 256 → checkText t s ≡ checkPoints t (decode s)
+  unfolding checkText
+  check-within h = ap (λ (b : Bool). pickChecked b (checkPoints t (decode s)) (bad TooLong)) (le-leb (length s) 256 h)

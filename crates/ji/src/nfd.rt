@@ -1,0 +1,82 @@
+// Canonical order (the Unicode Standard, 3.11, D108 and D109), of code points in their buffer.
+ghost use mathlib.Core.Path.{_≡_};
+ghost use mathlib.Core.Bool.{true, false};
+ghost use mathlib.Core.List.{_++_};
+ghost use Prim.Native.Nat.{_+_, _<_};
+ghost use lib.ListN.{length, take, drop, getD};
+ghost use Rattle.ucd.specs.Table.{combiningClass};
+ghost use Rattle.ucd.specs.Unicode16.{unicode16};
+ghost use Rattle.ji.specs.Nfd.{Ordered, insert, order};
+
+// The combining class of c. What stands below U+0300 is a starter, and most texts hold little else: it needs no lookup.
+pub(crate) fn class_of(c: u16) -> u8
+    ensures { λ r. ⌜ r ≡ combiningClass unicode16 c ⌝ }
+{
+    if c < 0x0300 {
+        return 0;
+    }
+    ucd::combining_class(c)
+}
+
+// No pair of s is reorderable.
+fn is_ordered(s: &[u16]) -> bool
+    ensures { λ r. ⌜ (r ≡ true → Ordered unicode16 (now (s .entry))) × (r ≡ false → Ordered unicode16 (now (s .entry)) → ⊥) ⌝ }
+{
+    let mut before: u8 = 0;
+    let mut i: usize = 0;
+    while i < s.len() {
+        let class = class_of(s[i]);
+        if class < before {
+            if 0 < class {
+                return false;
+            }
+        }
+        before = class;
+        i += 1;
+    }
+    true
+}
+
+// Moves the code point at i behind those that it is exchanged with.
+fn insert(s: &mut [u16], i: usize)
+    requires { ⌜ i < length (now s) ⌝ }
+    ensures { λ _. ⌜ now (s .exit) ≡ take i (now (s .entry)) ++ insert unicode16 (getD (now (s .entry)) i 0) (drop (i + 1) (now (s .entry))) ⌝ }
+{
+    let a = s[i];
+    let class = class_of(a);
+    let mut j = i;
+    while j + 1 < s.len() {
+        let b = s[j + 1];
+        let next = class_of(b);
+        if next == 0 {
+            break;
+        }
+        if class <= next {
+            break;
+        }
+        s[j] = b;
+        j += 1;
+    }
+    s[j] = a;
+}
+
+// The insertions, from the last code point to the first.
+fn sort(s: &mut [u16])
+    ensures { λ _. ⌜ now (s .exit) ≡ order unicode16 (now (s .entry)) ⌝ }
+{
+    let mut i = s.len();
+    while 0 < i {
+        i -= 1;
+        insert(s, i);
+    }
+}
+
+// Puts s into canonical order. Most texts are in order already: they are only read.
+pub(crate) fn order(s: &mut [u16])
+    ensures { λ _. ⌜ now (s .exit) ≡ order unicode16 (now (s .entry)) ⌝ }
+{
+    if is_ordered(s) {
+        return;
+    }
+    sort(s);
+}

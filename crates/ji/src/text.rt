@@ -1,0 +1,83 @@
+// Texts of code points: whether a text begins with a pattern, and replace-all.
+ghost use mathlib.Core.Path.{_≡_};
+ghost use mathlib.Core.List.{[], _∷_};
+ghost use Prim.Native.Nat.{_+_, _≤_, _<_};
+ghost use lib.ListN.{length, drop};
+ghost use lib.Seq.{paste};
+ghost use Rattle.ji.specs.Text.{begins, replaceAll};
+ghost use Rattle.ji.specs.Written.{Written};
+
+// Whether `s` begins with `pattern` at `at`.
+pub(crate) fn begins_at(s: &[u16], at: usize, pattern: &[u16]) -> bool
+    requires { ⌜ at ≤ length (now s) ⌝ }
+    ensures { λ r. ⌜ r ≡ begins (now (pattern .entry)) (drop at (now (s .entry))) ⌝ }
+{
+    if s.len() - at < pattern.len() {
+        return false;
+    }
+    let mut k: usize = 0;
+    while k < pattern.len() {
+        if s[at + k] != pattern[k] {
+            return false;
+        }
+        k += 1;
+    }
+    true
+}
+
+// Writes `src` into `out` from `at` on, and returns the place behind it.
+pub(crate) fn put(src: &[u16], out: &mut [u16], at: usize) -> usize
+    requires { ⌜ at + length (now src) ≤ length (now out) ⌝ }
+    ensures { λ r. ⌜ (r ≡ at + length (now (src .entry))) × (now (out .exit) ≡ paste (now (out .entry)) at (now (src .entry)) (length (now (src .entry)))) ⌝ }
+{
+    let mut k: usize = 0;
+    while k < src.len() {
+        out[at + k] = src[k];
+        k += 1;
+    }
+    at + k
+}
+
+// Writes `src`, with each occurrence of `pattern` replaced by `by`, to the front of `out`, and returns its length.
+pub(crate) fn replace(src: &[u16], pattern: &[u16], by: &[u16], out: &mut [u16]) -> usize
+    requires { ⌜ (0 < length (now pattern)) × (length (replaceAll (now pattern) (now by) (now src)) ≤ length (now out)) ⌝ }
+    ensures { λ r. ⌜ Written (now (out .entry)) (now (out .exit)) r (replaceAll (now (pattern .entry)) (now (by .entry)) (now (src .entry))) ⌝ }
+{
+    let mut i: usize = 0;
+    let mut j: usize = 0;
+    while i < src.len() {
+        if begins_at(src, i, pattern) {
+            j = put(by, out, j);
+            i += pattern.len();
+        } else {
+            out[j] = src[i];
+            i += 1;
+            j += 1;
+        }
+    }
+    j
+}
+
+// Replaces each occurrence of `pattern` by `by`, which is as long, so that the rest of the text stays where it is.
+pub(crate) fn replace_same(s: &mut [u16], pattern: &[u16], by: &[u16])
+    requires { ⌜ (0 < length (now pattern)) × (length (now by) ≡ length (now pattern)) ⌝ }
+    ensures { λ _. ⌜ now (s .exit) ≡ replaceAll (now (pattern .entry)) (now (by .entry)) (now (s .entry)) ⌝ }
+{
+    let mut i: usize = 0;
+    while i < s.len() {
+        if begins_at(s, i, pattern) {
+            i = put(by, s, i);
+        } else {
+            i += 1;
+        }
+    }
+}
+
+// Replaces each `a` `b` by `c` `d`.
+pub(crate) fn replace_pair(s: &mut [u16], a: u16, b: u16, c: u16, d: u16)
+    ensures { λ _. ⌜ now (s .exit) ≡ replaceAll (a ∷ b ∷ []) (c ∷ d ∷ []) (now (s .entry)) ⌝ }
+{
+    let pattern = [a, b];
+    let by = [c, d];
+    replace_same(s, &pattern, &by);
+}
