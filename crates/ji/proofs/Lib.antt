@@ -3,6 +3,7 @@ pub mod Cases
 pub mod Writing
 pub mod Underway
 pub mod Replies
+pub mod Readings
 pub mod Order
 pub mod OrderLoops
 pub mod Composition

@@ -4,7 +4,8 @@ use mathlib.Core.Path.{_≡_, refl, sym, _∙_, ap}
 use mathlib.Core.Bool.{Bool, true, false, _||_}
 use mathlib.Core.List.{List, [], _∷_, _++_}
 use mathlib.Core.Logic.{_⊎_, inl, inr}
-use Prim.Native.Nat.{ℕ}
+use Prim.Native.Nat.{ℕ, suc}
+use lib.ListN.{length}
 use native.Mathlib.Omega.{arith}
 use lib.Dec.{ltb, eqb}
 use borrow.Author.Tests.{lt-ltb, ltb-true, eqb-true, ne-eqb}
@@ -206,3 +207,15 @@ module _ (t : Table) where
   -- the order is stable: the code points of one class and the starters keep their places among each other (D109)
   pub order-stable : (k : ℕ) (s : List ℕ) → ofClass t k (order t s) ≡ ofClass t k s
   order-stable k s = sym (exchanges-stable k (order-reached s))
+
+  -- order keeps the length
+  insert-length : (a : ℕ) (s : List ℕ) → length (insert t a s) ≡ suc (length s)
+  insert-length a [] = ap length (insert-nil a)
+  insert-length a (b ∷ s) =
+      either (reorderable t a b)
+      (λ e. ap length (insert-past a b s e) ∙ ap suc (insert-length a s))
+      (λ e. ap length (insert-here a b s e))
+
+  pub order-length : (s : List ℕ) → length (order t s) ≡ length s
+  order-length [] = ap length order-nil
+  order-length (a ∷ s) = ap length (order-cons a s) ∙ insert-length a (order t s) ∙ ap suc (order-length s)

@@ -8,8 +8,9 @@ use lib.ListN.{length}
 use borrow.Author.Tests.{le-leb, lt-leb}
 use Rattle.ucd.specs.Table.{Table}
 use Rattle.ji.specs.Written.{Written}
-use Rattle.ji.specs.Utf8.{decode}
-use Rattle.ji.specs.Reply.{Reply, refused, over, answered, pickReply, placed, Checked, bad, pickChecked, checkPoints, checkText}
+use Rattle.ji.specs.Utf8.{decode, encode}
+use Rattle.ji.specs.Reply.{Reply, refused, over, answered, pickReply, placed, Checked, good, bad, pickChecked, checkPoints, checkText, textOf, textCall}
+use Rattle.ji.specs.declared.reply.Refusal.{Refusal}
 use Rattle.ji.specs.declared.reply.Refusal.the-variants.{TooLong, NoRoom}
 
 module _ (tone : ℕ) (output buffer : List ℕ) where
@@ -32,3 +33,13 @@ module _ (t : Table) (s : List ℕ) where
   pub check-within : length s ≤ 256 → checkText t s ≡ checkPoints t (decode s)
   unfolding checkText
   check-within h = ap (λ (b : Bool). pickChecked b (checkPoints t (decode s)) (bad TooLong)) (le-leb (length s) 256 h)
+
+-- a call that gives one text
+module _ (t : Table) (f : List ℕ → List ℕ) (text buffer : List ℕ) where
+  pub text-refused : (why : Refusal) → checkText t text ≡ bad why → refused why buffer ≡ textCall t f text buffer
+  unfolding textCall
+  text-refused why e = sym (ap (λ (k : Checked). textOf f k buffer) e)
+
+  pub text-good : (s : List ℕ) → checkText t text ≡ good s → placed 0 (encode (f s)) buffer ≡ textCall t f text buffer
+  unfolding textCall
+  text-good s e = sym (ap (λ (k : Checked). textOf f k buffer) e)

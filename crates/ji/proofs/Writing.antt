@@ -12,6 +12,11 @@ use Rattle.ji.specs.Written.{Written}
 pub written-none : (before : List ℕ) → Written before before 0 []
 written-none before = record { is = refl; size = refl; fits = omega arith }
 
+-- a buffer that kept its length and has a text in front
+pub written-from : (before after : List ℕ) (n : ℕ) (s : List ℕ) → n ≡ length s → after ≡ s ++ drop n before → length after ≡ length before → Written before after n s
+written-from before after n s size is kept =
+    record { is = is; size = sym size; fits = omega (arith, length-append s (drop n before), length-drop n before, ap length is) }
+
 module _ {before after : List ℕ} {n : ℕ} {s : List ℕ} (h : Written before after n s) where
   sized : length s ≡ n
   sized = h .size

@@ -1,15 +1,17 @@
 -- Replies (document 01, "Replies, by who causes them").
 use mathlib.Core.Bool.{Bool, true, false}
-use mathlib.Core.List.{List, _++_}
+use mathlib.Core.List.{List, [], _++_}
 use mathlib.Core.Option.{Option, none, some}
 use Prim.Native.Nat.{ℕ}
 use lib.Dec.{leb}
 use lib.ListN.{length, drop}
 use Rattle.ucd.specs.Table.{Table}
-use Rattle.ji.specs.Utf8.{decode}
+use Rattle.ji.specs.Utf8.{decode, encode}
 use Rattle.ji.specs.Unicode.{members}
 use Rattle.ji.specs.declared.reply.Refusal.{Refusal}
 use Rattle.ji.specs.declared.reply.Refusal.the-variants.{Argument, TooLong, IllFormed, OutsideTable, Parts, Position, NoRoom}
+use Rattle.ji.specs.declared.reply.TextAnswer.{TextAnswer}
+use Rattle.ji.specs.declared.reply.TextAnswer.the-variants.{Done, Refused}
 
 -- the numbers of the refusals
 abbrev pub refusalNumber : Refusal → ℕ
@@ -47,6 +49,11 @@ abbrev pub answered : ℕ → List ℕ → List ℕ → Reply
 answered tone output buffer =
     record { code = 0; length = length output; count = 0; body = 0; tone = tone; khin = 0; position = 0; buffer = over output buffer }
 
+-- an answer without a text: a length, and a position
+abbrev pub found : ℕ → ℕ → Reply
+found length position =
+    record { code = 0; length = length; count = 0; body = 0; tone = 0; khin = 0; position = position; buffer = [] }
+
 abbrev pub pickReply : Bool → Reply → Reply → Reply
 pickReply true a b = a
 pickReply false a b = b
@@ -72,3 +79,17 @@ checkPoints t (some s) = pickChecked (members t s) (good s) (bad OutsideTable)
 -- "2: text above 256 bytes"
 unfoldable pub checkText : Table → List ℕ → Checked
 checkText t s = pickChecked (leb (length s) 256) (checkPoints t (decode s)) (bad TooLong)
+
+-- ── a call that gives one text
+-- its reply to a text that was checked, and to the bytes of a text; f is what the call makes of its code points
+abbrev pub textOf : (List ℕ → List ℕ) → Checked → List ℕ → Reply
+textOf f (good s) buffer = placed 0 (encode (f s)) buffer
+textOf f (bad why) buffer = refused why buffer
+
+unfoldable pub textCall : Table → (List ℕ → List ℕ) → List ℕ → List ℕ → Reply
+textCall t f text buffer = textOf f (checkText t text) buffer
+
+-- the code's answer, and what it leaves in the buffer, as a reply
+abbrev pub textReply : TextAnswer → List ℕ → Reply
+textReply (Done n) buffer = record { code = 0; length = n .0; count = 0; body = 0; tone = 0; khin = 0; position = 0; buffer = buffer }
+textReply (Refused why) buffer = refused why buffer

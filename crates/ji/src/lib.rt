@@ -1,7 +1,7 @@
 // Texts, normalisation, tones and keys of one syllable.
 pub mod lomaji;
-mod nfc;
-mod nfd;
+pub mod nfc;
+pub mod nfd;
 pub mod reply;
 mod text;
 pub mod tone;

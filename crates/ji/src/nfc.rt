@@ -1,12 +1,18 @@
-// Canonical composition (the Unicode Standard, 3.11, D115 and D117), of code points in their buffer.
+// Canonical composition (the Unicode Standard, 3.11, D115 and D117), of code points in their buffer, and NFC (D120).
+use crate::nfd;
+use crate::reply;
+use crate::reply::TextAnswer;
+use crate::unicode::Decoded;
 ghost use mathlib.Core.Path.{_≡_};
 ghost use mathlib.Core.Bool.{true, false};
 ghost use mathlib.Core.List.{_++_};
 ghost use mathlib.Core.Option.{none, some};
+ghost use Prim.Native.Nat.{_≤_};
 ghost use lib.ListN.{length, drop};
 ghost use Rattle.ucd.specs.Unicode16.{unicode16};
-ghost use Rattle.ji.specs.Nfc.{pickDone, reversed, absorb, compose};
-use crate::nfd;
+ghost use Rattle.ji.specs.Utf8.{encode};
+ghost use Rattle.ji.specs.Reply.{placed, textCall, textReply};
+ghost use Rattle.ji.specs.Nfc.{pickDone, reversed, absorb, compose, nfc};
 
 // R1 and R2: c and the last starter of s give way to their composite, in the starter's place, unless c is blocked from it or they have none.
 // Says whether they did. What stands below U+0300 ends no composite.
@@ -58,4 +64,27 @@ pub(crate) fn compose(s: &mut [u16]) -> usize
         n += 1;
     }
     n
+}
+
+// Composes `s`, which is in NFD, and writes it to `out`.
+fn place_composed(s: &mut [u16], out: &mut [u8]) -> TextAnswer
+    requires { ⌜ length (now s) ≤ 65536 ⌝ }
+    ensures { λ r. ⌜ textReply r (now (out .exit)) ≡ placed 0 (encode (compose unicode16 (now (s .entry)))) (now (out .entry)) ⌝ }
+{
+    let n = compose(s);
+    reply::place(&s[0..n], out)
+}
+
+// NFC of `text`, in `out`.
+pub fn to_nfc(text: &[u8], out: &mut [u8]) -> TextAnswer
+    ensures { λ r. ⌜ textReply r (now (out .exit)) ≡ textCall unicode16 (nfc unicode16) (now (text .entry)) (now (out .entry)) ⌝ }
+{
+    let mut points = [0u16; 384];
+    match nfd::read_nfd(text, &mut points) {
+        Decoded::Refused(why) => TextAnswer::Refused(why),
+        Decoded::Points(len) => {
+            let n = len.0;
+            place_composed(&mut points[0..n], out)
+        }
+    }
 }

@@ -1,12 +1,20 @@
-// Canonical order (the Unicode Standard, 3.11, D108 and D109), of code points in their buffer.
+// Canonical order (the Unicode Standard, 3.11, D108 and D109), of code points in their buffer, and NFD (D118).
+use crate::reply;
+use crate::reply::Refusal;
+use crate::reply::TextAnswer;
+use crate::unicode;
+use crate::unicode::CharLen;
+use crate::unicode::Decoded;
 ghost use mathlib.Core.Path.{_≡_};
 ghost use mathlib.Core.Bool.{true, false};
 ghost use mathlib.Core.List.{_++_};
-ghost use Prim.Native.Nat.{_+_, _<_};
+ghost use Prim.Native.Nat.{_+_, _*_, _<_, _≤_};
 ghost use lib.ListN.{length, take, drop, getD};
 ghost use Rattle.ucd.specs.Table.{combiningClass};
 ghost use Rattle.ucd.specs.Unicode16.{unicode16};
-ghost use Rattle.ji.specs.Nfd.{Ordered, insert, order};
+ghost use Rattle.ji.specs.Reply.{textCall, textReply};
+ghost use Rattle.ji.specs.Reading.{NfdReading};
+ghost use Rattle.ji.specs.Nfd.{Ordered, insert, order, nfd};
 
 // The combining class of c. What stands below U+0300 is a starter, and most texts hold little else: it needs no lookup.
 pub(crate) fn class_of(c: u16) -> u8
@@ -79,4 +87,36 @@ pub(crate) fn order(s: &mut [u16])
         return;
     }
     sort(s);
+}
+
+// Reads `text` into `points`, in NFD.
+pub(crate) fn read_nfd(text: &[u8], points: &mut [u16]) -> Decoded
+    requires { ⌜ 384 ≤ length (now points) ⌝ }
+    ensures { λ r. ⌜ NfdReading unicode16 (now (text .entry)) (now (points .entry)) (now (points .exit)) r ⌝ }
+{
+    if 256 < text.len() {
+        return Decoded::Refused(Refusal::TooLong);
+    }
+    match unicode::decode(text, true, points) {
+        Decoded::Refused(why) => Decoded::Refused(why),
+        Decoded::Points(len) => {
+            let n = len.0;
+            order(&mut points[0..n]);
+            Decoded::Points(CharLen(n))
+        }
+    }
+}
+
+// NFD of `text`, in `out`.
+pub fn to_nfd(text: &[u8], out: &mut [u8]) -> TextAnswer
+    ensures { λ r. ⌜ textReply r (now (out .exit)) ≡ textCall unicode16 (nfd unicode16) (now (text .entry)) (now (out .entry)) ⌝ }
+{
+    let mut points = [0u16; 384];
+    match read_nfd(text, &mut points) {
+        Decoded::Refused(why) => TextAnswer::Refused(why),
+        Decoded::Points(len) => {
+            let n = len.0;
+            reply::place(&points[0..n], out)
+        }
+    }
 }

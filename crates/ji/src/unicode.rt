@@ -10,7 +10,7 @@ ghost use lib.ListN.{length};
 ghost use lib.Seq.{paste};
 ghost use Rattle.ucd.specs.Table.{decomposition};
 ghost use Rattle.ucd.specs.Unicode16.{unicode16};
-ghost use Rattle.ji.specs.Unicode.{spread};
+ghost use Rattle.ji.specs.Unicode.{toByteLen, spread};
 ghost use Rattle.ji.specs.Reading.{spreadText, Reading};
 
 // A number of bytes.
@@ -106,4 +106,13 @@ pub(crate) fn decode(s: &[u8], decomposed: bool, out: &mut [u16]) -> Decoded
         }
     }
     Decoded::Points(CharLen(n))
+}
+
+// How many bytes the first `chars` code points of `s` take.
+pub(crate) fn to_byte_len(s: &[u16], chars: CharLen) -> ByteLen
+    requires { ⌜ (chars .0 ≤ length (now s)) × (length (now s) ≤ 65536) ⌝ }
+    ensures { λ r. ⌜ r .0 ≡ toByteLen (now (s .entry)) (chars .0) ⌝ }
+{
+    let n = chars.0;
+    utf8::encoded_len(&s[0..n])
 }

@@ -2,7 +2,7 @@
 use mathlib.Core.List.{List}
 use Prim.Native.Nat.{ℕ}
 use Rattle.ji.specs.Reply as ji
-use Rattle.robinflint.specs.declared.Reply.{Reply}
+use Rattle.robinflint.specs.declared.reply.Reply.{Reply}
 
 abbrev pub replyOf : Reply → List ℕ → ji.Reply
 replyOf r buffer =

@@ -1,42 +1,20 @@
 // The functions that C and Rust call. Each takes apart the answer of a library function and lays its numbers out for C.
+pub mod reply;
+
+use crate::reply::Reply;
+use crate::reply::found;
+use crate::reply::refuse;
 use ji::lomaji::strip;
 use ji::lomaji::strip::Strip;
-use ji::reply;
-use ji::reply::Refusal;
+use ji::lomaji::tone_letter;
+use ji::lomaji::tone_letter::ToneLetter;
 use ji::tone;
 ghost use mathlib.Core.Path.{_≡_};
-ghost use Prim.Native.Nat.{ℕ};
-ghost use mathlib.Core.List.{List};
+ghost use mathlib.Core.List.{[]};
 ghost use Rattle.ji.specs.Unicode.{unicode16};
-ghost use Rattle.ji.specs.Reply.{refused};
 ghost use Rattle.ji.specs.Lomaji.Strip.{stripCall};
+ghost use Rattle.ji.specs.Lomaji.ToneLetter.{toneLetterCall};
 ghost use Rattle.robinflint.specs.Reply.{replyOf};
-
-// What a call replies: 0 or the refusal's number, and the numbers that it gives, each 0 where it gives none.
-#[repr(C)]
-pub struct Reply {
-    pub code: u64,
-    pub length: u64,
-    pub count: u64,
-    pub body: u64,
-    pub tone: u64,
-    pub khin: u64,
-    pub position: u64,
-}
-
-fn refuse(why: Refusal) -> Reply
-    ensures { λ r. ⌜ ((buffer : List ℕ) → replyOf r buffer ≡ refused why buffer) ⌝ }
-{
-    Reply {
-        code: reply::number(why),
-        length: 0,
-        count: 0,
-        body: 0,
-        tone: 0,
-        khin: 0,
-        position: 0,
-    }
-}
 
 // The text without its tone marks, in NFD, and its tone. Refuses with 2, 3, 4, 7.
 #[no_mangle]
@@ -58,5 +36,17 @@ pub extern "C" fn rf_strip(text: &[u8], out: &mut [u8]) -> Reply
                 position: 0,
             }
         }
+    }
+}
+
+// Where the tone letter of the text stands, in bytes: length 1 and the position, or length 0. Refuses with 2, 3, 4.
+#[no_mangle]
+pub extern "C" fn rf_tone_letter(text: &[u8]) -> Reply
+    ensures { λ r. ⌜ replyOf r [] ≡ toneLetterCall unicode16 (now (text .entry)) ⌝ }
+{
+    match tone_letter::tone_letter(text) {
+        ToneLetter::Refused(why) => refuse(why),
+        ToneLetter::Nothing => found(0, 0),
+        ToneLetter::At(position) => found(1, position.0 as u64),
     }
 }

@@ -7,6 +7,10 @@ use Prim.Native.String.{String}
 use Rattle.ucd.specs.Table.{Table, listed}
 use Rattle.ji.specs.Text.{points, lower}
 use Rattle.ji.specs.Nfd.{nfd}
+use Rattle.ji.specs.Unicode.{toByteLen}
+use Rattle.ji.specs.Reply.{Reply, refused, found, Checked, good, bad, checkText}
+use Rattle.ji.specs.declared.lomaji.tone_letter.ToneLetter.{ToneLetter}
+use Rattle.ji.specs.declared.lomaji.tone_letter.HasToneLetter.{HasToneLetter}
 use Rattle.ji.specs.declared.lomaji.tone_letter.Place.{Place}
 use Rattle.ji.specs.declared.lomaji.tone_letter.Place.the-variants.{At, Nowhere}
 
@@ -68,3 +72,37 @@ hasToneLetter t s = isSome (toneLetter (nfd t s))
 abbrev pub placeOf : Place → Option ℕ
 placeOf (At n) = some (n .0)
 placeOf Nowhere = none
+
+-- ── the calls
+-- "no tone letter" is a good answer "with length 0"; a tone letter has length 1 and its position, "counted in bytes"
+abbrev pub letterAt : List ℕ → Option ℕ → Reply
+letterAt s none = found 0 0
+letterAt s (some k) = found 1 (toByteLen s k)
+
+abbrev pub toneLetterOf : Checked → Reply
+toneLetterOf (good s) = letterAt s (toneLetter s)
+toneLetterOf (bad why) = refused why []
+
+unfoldable pub toneLetterCall : Table → List ℕ → Reply
+toneLetterCall t text = toneLetterOf (checkText t text)
+
+abbrev pub toneLetterReply : ToneLetter → Reply
+toneLetterReply (ToneLetter.At n) = found 1 (n .0)
+toneLetterReply ToneLetter.Nothing = found 0 0
+toneLetterReply (ToneLetter.Refused why) = refused why []
+
+abbrev pub hasLetterReply : Bool → Reply
+hasLetterReply true = found 1 0
+hasLetterReply false = found 0 0
+
+abbrev pub hasToneLetterOf : Table → Checked → Reply
+hasToneLetterOf t (good s) = hasLetterReply (hasToneLetter t s)
+hasToneLetterOf t (bad why) = refused why []
+
+unfoldable pub hasToneLetterCall : Table → List ℕ → Reply
+hasToneLetterCall t text = hasToneLetterOf t (checkText t text)
+
+abbrev pub hasToneLetterReply : HasToneLetter → Reply
+hasToneLetterReply HasToneLetter.Yes = found 1 0
+hasToneLetterReply HasToneLetter.No = found 0 0
+hasToneLetterReply (HasToneLetter.Refused why) = refused why []

@@ -4,7 +4,7 @@ ghost use mathlib.Core.Bool.{_||_};
 ghost use mathlib.Core.List.{[], _∷_};
 ghost use Rattle.ji.specs.Text.{begins};
 ghost use Rattle.ji.specs.Utf8.{bytes};
-ghost use Rattle.ji.specs.Lomaji.Khin.{afterKhin, khinOf};
+ghost use Rattle.ji.specs.Lomaji.Khin.{afterKhin, khinOf, khinNumber};
 
 // Whether a text has the mark.
 pub enum Khin {
@@ -47,4 +47,14 @@ pub fn khin_of(text: &[u8]) -> Khin
     ensures { λ r. ⌜ r ≡ khinOf (now (text .entry)) ⌝ }
 {
     if has_mark(text) { Khin::Yes } else { Khin::No }
+}
+
+// Khin as a number: 0 no, 1 yes.
+pub fn number(khin: Khin) -> u64
+    ensures { λ r. ⌜ r ≡ khinNumber khin ⌝ }
+{
+    match khin {
+        Khin::No => 0,
+        Khin::Yes => 1,
+    }
 }

@@ -1,12 +1,18 @@
 // The tone letter.
+use crate::nfd;
+use crate::reply::Refusal;
+use crate::unicode;
+use crate::unicode::ByteLen;
 use crate::unicode::CharLen;
+use crate::unicode::Decoded;
 ghost use mathlib.Core.Path.{_≡_};
 ghost use mathlib.Core.List.{[], _∷_};
 ghost use Prim.Native.Nat.{_<_, _≤_};
 ghost use lib.ListN.{length, drop, getD};
 ghost use Rattle.ucd.specs.Table.{listed};
 ghost use Rattle.ji.specs.Text.{points, point, lower};
-ghost use Rattle.ji.specs.Lomaji.ToneLetter.{patterns, matches, toneLetter, placeOf};
+ghost use Rattle.ucd.specs.Unicode16.{unicode16};
+ghost use Rattle.ji.specs.Lomaji.ToneLetter.{patterns, matches, toneLetter, placeOf, isSome, letterAt, toneLetterCall, toneLetterReply, hasLetterReply, hasToneLetterCall, hasToneLetterReply};
 
 // Where a tone letter stands, in code points.
 pub(crate) enum Place {
@@ -151,4 +157,69 @@ pub(crate) fn tone_position(s: &[u16]) -> Place
         k += 1;
     }
     place
+}
+
+// What the call answers: where the tone letter stands, in bytes, or that there is none.
+pub enum ToneLetter {
+    At(ByteLen),
+    Nothing,
+    Refused(Refusal),
+}
+
+// `get_tone_position`: the tone letter of `text` as it stands.
+pub fn tone_letter(text: &[u8]) -> ToneLetter
+    ensures { λ r. ⌜ toneLetterReply r ≡ toneLetterCall unicode16 (now (text .entry)) ⌝ }
+{
+    if 256 < text.len() {
+        return ToneLetter::Refused(Refusal::TooLong);
+    }
+    let mut points = [0u16; 384];
+    match unicode::decode(text, false, &mut points) {
+        Decoded::Refused(why) => ToneLetter::Refused(why),
+        Decoded::Points(len) => {
+            let n = len.0;
+            letter_in(&points[0..n])
+        }
+    }
+}
+
+// The tone letter of a text that was read: its place among the code points, turned into bytes.
+fn letter_in(s: &[u16]) -> ToneLetter
+    requires { ⌜ length (now s) ≤ 65536 ⌝ }
+    ensures { λ r. ⌜ toneLetterReply r ≡ letterAt (now (s .entry)) (toneLetter (now (s .entry))) ⌝ }
+{
+    match tone_position(s) {
+        Place::At(chars) => ToneLetter::At(unicode::to_byte_len(s, chars)),
+        Place::Nowhere => ToneLetter::Nothing,
+    }
+}
+
+// What `has_tone_letter` answers.
+pub enum HasToneLetter {
+    Yes,
+    No,
+    Refused(Refusal),
+}
+
+// Whether the NFD of `text` has a tone letter.
+pub fn has_tone_letter(text: &[u8]) -> HasToneLetter
+    ensures { λ r. ⌜ hasToneLetterReply r ≡ hasToneLetterCall unicode16 (now (text .entry)) ⌝ }
+{
+    let mut points = [0u16; 384];
+    match nfd::read_nfd(text, &mut points) {
+        Decoded::Refused(why) => HasToneLetter::Refused(why),
+        Decoded::Points(len) => {
+            let n = len.0;
+            has_letter(&points[0..n])
+        }
+    }
+}
+
+fn has_letter(s: &[u16]) -> HasToneLetter
+    ensures { λ r. ⌜ hasToneLetterReply r ≡ hasLetterReply (isSome (toneLetter (now (s .entry)))) ⌝ }
+{
+    match tone_position(s) {
+        Place::At(_) => HasToneLetter::Yes,
+        Place::Nowhere => HasToneLetter::No,
+    }
 }

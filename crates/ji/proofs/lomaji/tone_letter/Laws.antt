@@ -12,9 +12,13 @@ use borrow.Author.Tests.{eq-eqb, ne-eqb}
 use lib.Dec.{eqb}
 use lib.ListN.{length, drop, getD, drop-of-length-le, List·getD-eq-default}
 use lib.Seq.{drop-cons}
-use Rattle.ucd.specs.Table.{All, listed}
+use Rattle.ucd.specs.Table.{Table, All, listed}
 use Rattle.ji.specs.Text.{points, point, lower}
-use Rattle.ji.specs.Lomaji.ToneLetter.{patterns, matches, pickPlace, further, orElse, firstPlace, searched, toneLetter}
+use Rattle.ji.specs.Lomaji.ToneLetter.{patterns, matches, pickPlace, further, orElse, firstPlace, searched, toneLetter, isSome, hasToneLetter, placeOf, letterAt, toneLetterOf, toneLetterCall, hasLetterReply, hasToneLetterOf, hasToneLetterCall}
+use Rattle.ji.specs.Nfd.{nfd}
+use Rattle.ji.specs.Reply.{refused, good, bad, checkText}
+use Rattle.ji.specs.declared.reply.Refusal.{Refusal}
+use Rattle.ji.specs.declared.lomaji.tone_letter.Place.{Place}
 use Rattle.ji.proofs.Bools.{false-true, either, and-yes, and-no, and-true, and-right, or-no}
 
 -- pattern k: its letters, and which of them is the tone letter
@@ -260,3 +264,25 @@ search-below (p ∷ ps) h s k e =
 pub tone-letter-below : (s : List ℕ) (k : ℕ) → toneLetter s ≡ some k → k < length s
 unfolding toneLetter
 tone-letter-below s k e = search-below patterns (omega arith) s k e
+
+-- ── the calls
+-- what was found, as the definition has it
+pub letter-found : (s : List ℕ) {p x : Place} → p ≡ x → placeOf p ≡ toneLetter s → placeOf x ≡ toneLetter s
+letter-found s e h = ap placeOf (sym e) ∙ h
+
+module _ (t : Table) (text : List ℕ) where
+  pub letter-refused : (why : Refusal) → checkText t text ≡ bad why → refused why [] ≡ toneLetterCall t text
+  unfolding toneLetterCall
+  letter-refused why e = sym (ap toneLetterOf e)
+
+  pub letter-good : (s : List ℕ) → checkText t text ≡ good s → letterAt s (toneLetter s) ≡ toneLetterCall t text
+  unfolding toneLetterCall
+  letter-good s e = sym (ap toneLetterOf e)
+
+  pub has-refused : (why : Refusal) → checkText t text ≡ bad why → refused why [] ≡ hasToneLetterCall t text
+  unfolding hasToneLetterCall
+  has-refused why e = sym (ap (hasToneLetterOf t) e)
+
+  pub has-good : (s : List ℕ) → checkText t text ≡ good s → hasLetterReply (isSome (toneLetter (nfd t s))) ≡ hasToneLetterCall t text
+  unfolding hasToneLetterCall hasToneLetter
+  has-good s e = sym (ap (hasToneLetterOf t) e)

@@ -1,6 +1,6 @@
 use borrow.Author.Needs.{needs}
-use Rattle.robinflint.proofs.refuse.Statement.{statement}
-use Rattle.robinflint.proofs.refuse.Tie as tie
+use Rattle.robinflint.proofs.reply.refuse.Statement.{statement}
+use Rattle.robinflint.proofs.reply.refuse.Tie as tie
 
 number-requires : tie.Need-number-requires
 number-requires c κs = search needs

@@ -1,0 +1,62 @@
+// Parts of the libraries that are no C function of their own, exported to be compared with the Rust and timed. Not shipped.
+use ji::lomaji::khin;
+use ji::lomaji::tone_letter;
+use ji::lomaji::tone_letter::HasToneLetter;
+use ji::nfc;
+use ji::nfd;
+use robinflint::reply;
+use robinflint::reply::Reply;
+ghost use mathlib.Core.Path.{_≡_};
+ghost use mathlib.Core.List.{[]};
+ghost use Rattle.ji.specs.Unicode.{unicode16};
+ghost use Rattle.ji.specs.Reply.{textCall};
+ghost use Rattle.ji.specs.Nfd.{nfd};
+ghost use Rattle.ji.specs.Nfc.{nfc};
+ghost use Rattle.ji.specs.Lomaji.ToneLetter.{hasToneLetterCall};
+ghost use Rattle.robinflint.specs.Reply.{replyOf};
+ghost use Rattle.workbench.specs.Khin.{khinCall};
+
+// NFD of the text. Refuses with 2, 3, 4, 7.
+#[no_mangle]
+pub extern "C" fn wb_nfd(text: &[u8], out: &mut [u8]) -> Reply
+    ensures { λ r. ⌜ replyOf r (now (out .exit)) ≡ textCall unicode16 (nfd unicode16) (now (text .entry)) (now (out .entry)) ⌝ }
+{
+    reply::text(nfd::to_nfd(text, out))
+}
+
+// NFC of the text. Refuses with 2, 3, 4, 7.
+#[no_mangle]
+pub extern "C" fn wb_nfc(text: &[u8], out: &mut [u8]) -> Reply
+    ensures { λ r. ⌜ replyOf r (now (out .exit)) ≡ textCall unicode16 (nfc unicode16) (now (text .entry)) (now (out .entry)) ⌝ }
+{
+    reply::text(nfc::to_nfc(text, out))
+}
+
+// What `strip_khin` hands back: the length of the rest, where it begins, and whether there was a mark.
+#[no_mangle]
+pub extern "C" fn wb_strip_khin(text: &[u8]) -> Reply
+    ensures { λ r. ⌜ replyOf r [] ≡ khinCall (now (text .entry)) ⌝ }
+{
+    let rest = khin::strip_khin(text);
+    Reply {
+        code: 0,
+        length: rest.len() as u64,
+        count: 0,
+        body: 0,
+        tone: 0,
+        khin: khin::number(khin::khin_of(text)),
+        position: (text.len() - rest.len()) as u64,
+    }
+}
+
+// Whether the NFD of the text has a tone letter: length 1, or 0. Refuses with 2, 3, 4.
+#[no_mangle]
+pub extern "C" fn wb_has_tone_letter(text: &[u8]) -> Reply
+    ensures { λ r. ⌜ replyOf r [] ≡ hasToneLetterCall unicode16 (now (text .entry)) ⌝ }
+{
+    match tone_letter::has_tone_letter(text) {
+        HasToneLetter::Refused(why) => reply::refuse(why),
+        HasToneLetter::Yes => reply::found(1, 0),
+        HasToneLetter::No => reply::found(0, 0),
+    }
+}
