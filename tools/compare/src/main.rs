@@ -1,0 +1,86 @@
+//! Holds the C functions of Robinflint to the Rust that they port.
+
+#[cfg(feature = "archives")]
+mod archive;
+mod call;
+mod compare;
+mod digest;
+mod inputs;
+mod normalization;
+mod oracle;
+mod random;
+mod record;
+mod replay;
+mod rules;
+mod slab;
+mod speed;
+#[cfg_attr(feature = "archives", allow(dead_code))]
+mod standin;
+#[rustfmt::skip]
+mod tables;
+mod tuned;
+mod vectors;
+
+use call::Subject;
+use std::env;
+use std::io;
+use std::path::Path;
+use std::process::ExitCode;
+
+#[cfg(feature = "archives")]
+const SUBJECT: &dyn Subject = &archive::Archive;
+#[cfg(not(feature = "archives"))]
+const SUBJECT: &dyn Subject = &standin::StandIn;
+
+const USAGE: &str = "usage: compare compare [SEED]
+       compare vectors DIR
+       compare normalization FILE DIR
+       compare replay FILE...
+       compare speed";
+
+fn main() -> ExitCode {
+    let words: Vec<String> = env::args().skip(1).collect();
+    let words: Vec<&str> = words.iter().map(String::as_str).collect();
+    match act(&words) {
+        Ok(code) => code,
+        Err(error) => {
+            eprintln!("{error}");
+            ExitCode::from(2)
+        }
+    }
+}
+
+fn act(words: &[&str]) -> io::Result<ExitCode> {
+    match words {
+        ["compare"] => Ok(compared(compare::SEED)),
+        ["compare", seed] => Ok(compared(seed.parse().map_err(|_| wrong("SEED is a number"))?)),
+        ["vectors", folder] => vectors::write(Path::new(folder)).map(|_| ExitCode::SUCCESS),
+        ["normalization", file, folder] => {
+            normalization::write(Path::new(file), Path::new(folder)).map(|_| ExitCode::SUCCESS)
+        }
+        ["replay", files @ ..] if !files.is_empty() => replayed(files),
+        ["speed"] => {
+            speed::run();
+            Ok(ExitCode::SUCCESS)
+        }
+        _ => Err(wrong(USAGE)),
+    }
+}
+
+fn wrong(text: &str) -> io::Error {
+    io::Error::new(io::ErrorKind::InvalidInput, text)
+}
+
+fn compared(seed: u64) -> ExitCode {
+    let run = compare::run(SUBJECT, seed);
+    run.print(seed);
+    ExitCode::from((run.differences() > 0) as u8)
+}
+
+fn replayed(files: &[&str]) -> io::Result<ExitCode> {
+    let mut sum = 0;
+    for file in files {
+        sum += replay::file(SUBJECT, Path::new(file))?;
+    }
+    Ok(ExitCode::from((sum > 0) as u8))
+}
