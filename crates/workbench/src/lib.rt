@@ -1,9 +1,13 @@
 // Parts of the libraries that are no C function of their own, exported to be compared with the Rust and timed. Not shipped.
+use ji::lomaji::keys;
+use ji::lomaji::keys::Form;
+use ji::lomaji::keys::Kind;
 use ji::lomaji::khin;
 use ji::lomaji::tone_letter;
 use ji::lomaji::tone_letter::HasToneLetter;
 use ji::nfc;
 use ji::nfd;
+use ji::reply::Refusal;
 use robinflint::reply;
 use robinflint::reply::Reply;
 ghost use mathlib.Core.Path.{_≡_};
@@ -15,6 +19,7 @@ ghost use Rattle.ji.specs.Nfc.{nfc};
 ghost use Rattle.ji.specs.Lomaji.ToneLetter.{hasToneLetterCall};
 ghost use Rattle.robinflint.specs.Reply.{replyOf};
 ghost use Rattle.workbench.specs.Khin.{khinCall};
+ghost use Rattle.workbench.specs.Keys.{formOf, kindOf, keysCall};
 
 // NFD of the text. Refuses with 2, 3, 4, 7.
 #[no_mangle]
@@ -59,4 +64,39 @@ pub extern "C" fn wb_has_tone_letter(text: &[u8]) -> Reply
         HasToneLetter::Yes => reply::found(1, 0),
         HasToneLetter::No => reply::found(0, 0),
     }
+}
+
+// The keys of a syllable: form 0 plain, 1 `_oo`; kind 0 detoned, 1 numeric, 2 telex. Refuses with 1, 2, 3, 4, 7.
+#[no_mangle]
+pub extern "C" fn wb_keys(text: &[u8], form: u64, kind: u64, out: &mut [u8]) -> Reply
+    ensures { λ r. ⌜ replyOf r (now (out .exit)) ≡ keysCall form kind (now (text .entry)) (now (out .entry)) ⌝ }
+{
+    if 1 < form {
+        return reply::refuse(Refusal::Argument);
+    }
+    if 2 < kind {
+        return reply::refuse(Refusal::Argument);
+    }
+    reply::text(keys::keys(text, form_of(form), kind_of(kind), out))
+}
+
+fn form_of(number: u64) -> Form
+    ensures { λ r. ⌜ r ≡ formOf number ⌝ }
+{
+    if number == 0 {
+        return Form::Plain;
+    }
+    Form::Oo
+}
+
+fn kind_of(number: u64) -> Kind
+    ensures { λ r. ⌜ r ≡ kindOf number ⌝ }
+{
+    if number == 0 {
+        return Kind::Detoned;
+    }
+    if number == 1 {
+        return Kind::Numeric;
+    }
+    Kind::Telex
 }

@@ -1,15 +1,26 @@
 // Keys of one syllable.
 ghost use mathlib.Core.Path.{_≡_};
 ghost use mathlib.Core.List.{[], _∷_};
-ghost use Prim.Native.Nat.{_≤_};
+ghost use Prim.Native.Nat.{_+_, _*_, _≤_, _<_};
 ghost use lib.ListN.{length, take, drop};
+ghost use lib.Seq.{paste};
+ghost use Rattle.ucd.specs.Unicode16.{unicode16};
+ghost use Rattle.ji.specs.Utf8.{encode};
 ghost use Rattle.ji.specs.Tone.{toneNumber};
 ghost use Rattle.ji.specs.Written.{Written};
-ghost use Rattle.ji.specs.Lomaji.Keys.{plainRules, rulesOf, respell, toneKeys, keyText};
+ghost use Rattle.ji.specs.Reply.{textCall, textReply};
+ghost use Rattle.ji.specs.Lomaji.Strip.{unmarkedTone, toneOr, stripped};
+ghost use Rattle.ji.specs.Lomaji.Keys.{plainRules, rulesOf, respell, toneKeys, keyed, keys, keyText};
+use crate::lomaji::strip;
+use crate::nfd;
+use crate::reply;
+use crate::reply::TextAnswer;
 use crate::text::put;
 use crate::text::replace_pair;
 use crate::tone;
 use crate::tone::Tone;
+use crate::unicode::Decoded;
+use crate::utf8;
 
 // The two spellings of o with U+0358: ou, and oo.
 pub enum Form {
@@ -106,5 +117,63 @@ pub(crate) fn tone_key(kind: Kind, tone: Tone) -> ToneKey
         Kind::Detoned => ToneKey::Nothing,
         Kind::Numeric => key_of(b"0123456789"[n]),
         Kind::Telex => key_of(b"01sf4l6jjw"[n]),
+    }
+}
+
+// Writes the key at `at`, and returns the place behind it.
+fn put_key(key: ToneKey, out: &mut [u16], at: usize) -> usize
+    requires { ⌜ at + length (keyText key) ≤ length (now out) ⌝ }
+    ensures { λ r. ⌜ (r ≡ at + length (keyText key)) × (now (out .exit) ≡ paste (now (out .entry)) at (keyText key) (length (keyText key))) ⌝ }
+{
+    match key {
+        ToneKey::Nothing => at,
+        ToneKey::Key(k) => {
+            out[at] = k;
+            at + 1
+        }
+    }
+}
+
+// The tone of the stripped text `s`: of the last mark, or by its ending, for which it is turned into bytes. A code point of it has at most three.
+fn spoken_tone(last: Tone, s: &[u16]) -> Tone
+    requires { ⌜ length (now s) ≤ 384 ⌝ }
+    ensures { λ r. ⌜ r ≡ toneOr last (unmarkedTone (encode (now (s .entry)))) ⌝ }
+{
+    if tone::is_tone(last) {
+        return last;
+    }
+    let mut bytes = [0u8; 1152];
+    let len = utf8::encode(s, &mut bytes);
+    let n = len.0;
+    strip::tone_of(last, &bytes[0..n])
+}
+
+// Writes the keys of the text `s`, which is in NFD, to the front of `out`, and returns their number. `s` is used up.
+fn write_keys(form: Form, kind: Kind, s: &mut [u16], out: &mut [u16]) -> usize
+    requires { ⌜ (length (now s) ≤ 384) × (2 * length (now s) < length (now out)) ⌝ }
+    ensures { λ r. ⌜ Written (now (out .entry)) (now (out .exit)) r (keyed (rulesOf form) (toneKeys kind) (stripped (now (s .entry)))) ⌝ }
+{
+    let dropped = strip::drop_marks(s);
+    let left = dropped.left;
+    let n = left.0;
+    let last = dropped.tone;
+    let tone = spoken_tone(last, &s[0..n]);
+    let m = respell(form, &mut s[0..n], out);
+    put_key(tone_key(kind, tone), out, m)
+}
+
+// `poj_syl_to_key_sequences` and its `_oo` form: the keys of the syllable `text`, in `out`.
+pub fn keys(text: &[u8], form: Form, kind: Kind, out: &mut [u8]) -> TextAnswer
+    ensures { λ r. ⌜ textReply r (now (out .exit)) ≡ textCall unicode16 (keys unicode16 form kind) (now (text .entry)) (now (out .entry)) ⌝ }
+{
+    let mut points = [0u16; 384];
+    match nfd::read_nfd(text, &mut points) {
+        Decoded::Refused(why) => TextAnswer::Refused(why),
+        Decoded::Points(len) => {
+            let n = len.0;
+            let mut letters = [0u16; 769];
+            let m = write_keys(form, kind, &mut points[0..n], &mut letters);
+            reply::place(&letters[0..m], out)
+        }
     }
 }

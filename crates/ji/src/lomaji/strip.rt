@@ -50,13 +50,13 @@ fn mark_tone(c: u16) -> Tone
 }
 
 // How many code points are left of a text, and the tone of its last mark, None where it has none.
-struct Dropped {
-    left: CharLen,
-    tone: Tone,
+pub(crate) struct Dropped {
+    pub left: CharLen,
+    pub tone: Tone,
 }
 
 // Drops the tone marks of `s`, in place.
-fn drop_marks(s: &mut [u16]) -> Dropped
+pub(crate) fn drop_marks(s: &mut [u16]) -> Dropped
     ensures { λ r. ⌜ Written (now (s .entry)) (now (s .exit)) (r .left .0) (withoutMarks (now (s .entry))) × (r .tone ≡ lastTone Tone.None (droppedMarks (now (s .entry)))) ⌝ }
 {
     let mut i = 0;
@@ -140,7 +140,7 @@ fn unmarked_tone(s: &[u8]) -> Tone
 }
 
 // The tone: of the last mark, or by the ending of the stripped text, whose bytes `s` are.
-fn tone_of(last: Tone, s: &[u8]) -> Tone
+pub(crate) fn tone_of(last: Tone, s: &[u8]) -> Tone
     ensures { λ r. ⌜ r ≡ toneOr last (unmarkedTone (now (s .entry))) ⌝ }
 {
     if is_tone(last) {

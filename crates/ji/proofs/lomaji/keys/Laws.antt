@@ -1,14 +1,24 @@
--- Laws of the six rules by which a syllable is written in keys.
+-- Laws of the six rules by which a syllable is written in keys, and of the key of its tone.
 use mathlib.Core.Path.{_≡_, refl, ap, _∙_}
-use mathlib.Core.List.{List, [], _∷_}
-use Prim.Native.Nat.{ℕ, _*_, _≤_, _<_}
+use mathlib.Core.List.{List, [], _∷_, _++_}
+use Prim.Native.Nat.{ℕ, suc, _*_, _≤_, _<_}
 use native.Mathlib.Omega.{arith}
-use lib.ListN.{length, take, drop}
+use lib.ListN.{length, take, drop, getD, length-append}
 use Rattle.ji.specs.Text.{point, points, replaceFrom, replaceAll, begins}
-use Rattle.ji.specs.Lomaji.Keys.{plainRules, rulesOf, respell}
+use Rattle.ji.specs.Utf8.{bytesOf, encode}
+use Rattle.ji.specs.Tone.{toneNumber}
+use Rattle.ji.specs.Lomaji.Strip.{withoutMarks, droppedMarks, lastTone, unmarkedTone, toneOr, stripped}
+use Rattle.ji.specs.Lomaji.Keys.{plainRules, rulesOf, respell, toneKeys, keyed, keyText}
+use Rattle.ji.specs.declared.tone.Tone.{Tone}
+use Rattle.ji.specs.declared.tone.Tone.the-variants.{None}
 use Rattle.ji.specs.declared.lomaji.keys.Form.{Form}
 use Rattle.ji.specs.declared.lomaji.keys.Form.the-variants.{Plain, Oo}
+use Rattle.ji.specs.declared.lomaji.keys.Kind.{Kind}
+use Rattle.ji.specs.declared.lomaji.keys.ToneKey.{ToneKey}
+use Rattle.ji.specs.declared.lomaji.keys.ToneKey.the-variants.{Nothing, Key}
 use Rattle.ji.proofs.text.Laws.{replace-same-length, points-growth}
+use Rattle.ji.proofs.utf8.Encoding.{bytes-most, encode-nil, encode-cons}
+use Rattle.ji.proofs.lomaji.strip.Laws.{tone-or}
 
 -- ── the rules in three parts: o and O with U+0358, U+207F and U+1D3A, o and u with U+0324. The forms differ in the first alone
 pub respell-parts : (f : Form) (s : List ℕ) → respell (rulesOf f) s ≡ respell (drop 4 plainRules) (respell (take 2 (drop 2 plainRules)) (respell (take 2 (rulesOf f)) s))
@@ -52,3 +62,20 @@ respell-as-long f s = ap length (respell-parts f s) ∙ last-length (respell (ta
 
 pub respell-length : (f : Form) (s : List ℕ) → length (respell (rulesOf f) s) ≤ 2 * length s
 respell-length f s = omega (arith, respell-as-long f s, nasals-length (respell (take 2 (rulesOf f)) s), first-length f s)
+
+-- code points of sixteen bits have at most three bytes each
+pub encode-most : (s : List ℕ) → ((i : ℕ) → getD s i 0 ≤ 0xFFFF) → length (encode s) ≤ 3 * length s
+encode-most [] h = omega (arith, ap length encode-nil)
+encode-most (x ∷ s) h =
+    omega (arith, ap length (encode-cons x s), length-append (bytesOf x) (encode s), bytes-most x (h 0), encode-most s (λ i. h (suc i)))
+
+pub key-length : (k : ToneKey) → length (keyText k) ≤ 1
+key-length Nothing = omega arith
+key-length (Key k) = omega arith
+
+-- ── the keys of a text in NFD: its letters, and the key of its tone
+pub keyed-is : (f : Form) (k : Kind) (s : List ℕ) (tone : Tone) (key : List ℕ) → tone ≡ toneOr (lastTone None (droppedMarks s)) (unmarkedTone (encode (withoutMarks s))) → key ≡ take 1 (drop (toneNumber tone) (toneKeys k)) → respell (rulesOf f) (withoutMarks s) ++ key ≡ keyed (rulesOf f) (toneKeys k) (stripped s)
+unfolding keyed stripped
+keyed-is f k s tone key e told =
+    ap (λ (l : List ℕ). respell (rulesOf f) (withoutMarks s) ++ l) told
+    ∙ ap (λ (o : Tone). respell (rulesOf f) (withoutMarks s) ++ take 1 (drop (toneNumber o) (toneKeys k))) (e ∙ tone-or s (unmarkedTone (encode (withoutMarks s))))
