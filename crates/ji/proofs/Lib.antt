@@ -11,4 +11,5 @@ pub mod ComposeLoops
 pub mod Decomposition
 pub mod Normalisation
 pub mod Finished
+pub mod Closure
 pub mod CanonicalExamples
