@@ -7,15 +7,12 @@ use native.Mathlib.Omega.{arith}
 use lib.Dec.{leb}
 use borrow.Author.Tests.{le-leb, lt-leb, leb-true}
 use Rattle.ucd.specs.Table.{pickNumber, pickText}
+-- a Bool is one or the other
+pub use Rattle.ucd.proofs.Tests.{either}
 use Rattle.ji.specs.Text.{within}
 
 pub false-true : false ≡ true → ⊥
 false-true e = let z : _≡_ {A = ℕ} 0 1 = cc in omega arith
-
--- a Bool is one or the other
-pub either {ℓ} : {P : Type ℓ} (b : Bool) → (b ≡ true → P) → (b ≡ false → P) → P
-either true f g = f refl
-either false f g = g refl
 
 pub and-no : (a b : Bool) → a ≡ false → (a && b) ≡ false
 and-no a b e = ap (λ (x : Bool). x && b) e
