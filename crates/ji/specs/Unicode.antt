@@ -4,9 +4,10 @@ use mathlib.Core.List.{List, [], _∷_, _++_}
 use Prim.Native.Nat.{ℕ, zero, suc, _-_}
 use lib.Dec.{eqb}
 use lib.ListN.{length, take}
-use Rattle.ucd.specs.Table.{Table, member, pickText}
+pub use Rattle.ucd.specs.Table.{Table, member, pickText}
 use Rattle.ucd.specs.Full.{full}
--- the edition in use, for the crates above
+-- what the crates above need of the table: they know it through this crate alone
+pub use Rattle.ucd.specs.Table.{All, pickNumber, same, listed}
 pub use Rattle.ucd.specs.Unicode16.{unicode16}
 use Rattle.ji.specs.Utf8.{widthAt, pointAt, encode}
 

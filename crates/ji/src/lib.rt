@@ -3,7 +3,7 @@ pub mod lomaji;
 pub mod nfc;
 pub mod nfd;
 pub mod reply;
-mod text;
+pub mod text;
 pub mod tone;
 pub mod unicode;
 mod utf8;

@@ -1,11 +1,21 @@
 // Texts of code points: whether a text begins with a pattern, and replace-all.
+use crate::unicode::CharLen;
 ghost use mathlib.Core.Path.{_≡_};
 ghost use mathlib.Core.List.{[], _∷_};
 ghost use Prim.Native.Nat.{_+_, _≤_, _<_};
+ghost use lib.Dec.{leb};
 ghost use lib.ListN.{length, drop};
 ghost use lib.Seq.{paste};
 ghost use Rattle.ji.specs.Text.{begins, replaceAll};
 ghost use Rattle.ji.specs.Written.{Written};
+ghost use Rattle.ji.specs.Replacing.{Replacing};
+
+// What replacing answers: how many code points were written, or why none was.
+pub enum Replaced {
+    Done(CharLen),
+    NoRoom,
+    NoPattern,
+}
 
 // Whether `s` begins with `pattern` at `at`.
 pub(crate) fn begins_at(s: &[u16], at: usize, pattern: &[u16]) -> bool
@@ -56,6 +66,43 @@ pub(crate) fn replace(src: &[u16], pattern: &[u16], by: &[u16], out: &mut [u16])
         }
     }
     j
+}
+
+// Whether `s`, with each occurrence of `pattern` replaced by `by`, has at most `room` code points. It counts down what is left of the
+// room, and stops at the first piece that does not go in, so that a length that no number holds is refused too.
+fn fits(s: &[u16], pattern: &[u16], by: &[u16], room: usize) -> bool
+    requires { ⌜ 0 < length (now pattern) ⌝ }
+    ensures { λ r. ⌜ r ≡ leb (length (replaceAll (now (pattern .entry)) (now (by .entry)) (now (s .entry)))) room ⌝ }
+{
+    let mut i: usize = 0;
+    let mut left = room;
+    while i < s.len() {
+        let mut width: usize = 1;
+        let mut size: usize = 1;
+        if begins_at(s, i, pattern) {
+            width = pattern.len();
+            size = by.len();
+        }
+        if left < size {
+            return false;
+        }
+        left -= size;
+        i += width;
+    }
+    true
+}
+
+// `s` with each occurrence of `pattern` replaced by `by`, in `out`.
+pub fn replace_all(s: &[u16], pattern: &[u16], by: &[u16], out: &mut [u16]) -> Replaced
+    ensures { λ r. ⌜ Replacing (now (pattern .entry)) (now (by .entry)) (now (s .entry)) (now (out .entry)) (now (out .exit)) r ⌝ }
+{
+    if pattern.len() == 0 {
+        return Replaced::NoPattern;
+    }
+    if fits(s, pattern, by, out.len()) {
+        return Replaced::Done(CharLen(replace(s, pattern, by, out)));
+    }
+    Replaced::NoRoom
 }
 
 // Replaces each occurrence of `pattern` by `by`, which is as long, so that the rest of the text stays where it is.

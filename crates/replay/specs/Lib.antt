@@ -1,0 +1,4 @@
+pub mod Record
+pub mod Expected
+pub mod Calls
+pub mod Replay

@@ -1,0 +1,4 @@
+// Replays rows of Unicode's NormalizationTest.txt.
+fn main() {
+    replay::run();
+}
