@@ -1,5 +1,6 @@
 -- What `lomaji.rs` does, a file for each job.
 pub mod Strip
+pub mod Quick
 pub mod Khin
 pub mod ToneLetter
 pub mod Keys

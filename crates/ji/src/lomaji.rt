@@ -1,5 +1,6 @@
 // What `lomaji.rs` does, a file for each job.
 pub mod keys;
 pub mod khin;
+mod quick;
 pub mod strip;
 pub mod tone_letter;

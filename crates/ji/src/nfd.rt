@@ -26,21 +26,27 @@ pub(crate) fn class_of(c: u16) -> u8
     ucd::combining_class(c)
 }
 
-// No pair of s is reorderable.
+// No pair of s is reorderable. What stands below U+0300 is passed over without a call.
 fn is_ordered(s: &[u16]) -> bool
     ensures { λ r. ⌜ (r ≡ true → Ordered unicode16 (now (s .entry))) × (r ≡ false → Ordered unicode16 (now (s .entry)) → ⊥) ⌝ }
 {
     let mut before: u8 = 0;
     let mut i: usize = 0;
     while i < s.len() {
-        let class = class_of(s[i]);
-        if class < before {
-            if 0 < class {
-                return false;
+        let c = s[i];
+        if c < 0x0300 {
+            before = 0;
+            i += 1;
+        } else {
+            let class = class_of(c);
+            if class < before {
+                if 0 < class {
+                    return false;
+                }
             }
+            before = class;
+            i += 1;
         }
-        before = class;
-        i += 1;
     }
     true
 }

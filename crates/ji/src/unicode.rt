@@ -43,9 +43,13 @@ fn spread_pair(a: u16, b: u16) -> Spread
     }
 }
 
+// What c becomes. What stands below U+00C0 does not decompose, and most texts hold little else: it needs no lookup.
 fn spread_point(c: u16, decomposed: bool) -> Spread
     ensures { λ r. ⌜ spreadText r ≡ spread unicode16 decomposed (c ∷ []) ⌝ }
 {
+    if c < 0x00C0 {
+        return Spread::One(c);
+    }
     if decomposed {
         match ucd::decomposition(c) {
             Mapping::Itself => Spread::One(c),
@@ -89,7 +93,7 @@ pub(crate) fn decode(s: &[u8], decomposed: bool, out: &mut [u16]) -> Decoded
     let mut i = 0;
     let mut n: usize = 0;
     while i < s.len() {
-        let sequence = utf8::read_at(s, i);
+        let sequence = utf8::read(s, i);
         let width = sequence.width;
         if width == 0 {
             return Decoded::Refused(Refusal::IllFormed);

@@ -152,6 +152,23 @@ pub(crate) fn read_at(s: &[u8], at: usize) -> Sequence
     ill_formed()
 }
 
+// The same, small enough to be compiled into a caller's loop: a sequence of one byte or two is read in place.
+pub(crate) fn read(s: &[u8], at: usize) -> Sequence
+    requires { ⌜ at < length (now s) ⌝ }
+    ensures { λ r. ⌜ ReadOf (drop at (now (s .entry))) (r .width) (r .point) ⌝ }
+{
+    let a = byte_at(s, at);
+    if a <= 0x7F {
+        return Sequence { width: 1, point: a };
+    }
+    if 0xC2 <= a {
+        if a <= 0xDF {
+            return read_two(s, at);
+        }
+    }
+    read_at(s, at)
+}
+
 // Whether all of `s` from `at` on is well formed.
 pub(crate) fn well_formed(s: &[u8], at: usize) -> bool
     requires { ⌜ at ≤ length (now s) ⌝ }
@@ -170,7 +187,7 @@ pub(crate) fn well_formed(s: &[u8], at: usize) -> bool
 }
 
 // Writes the bytes of the code point `x` at `at`, and returns the place behind them.
-fn put_point(x: u32, out: &mut [u8], at: usize) -> usize
+pub(crate) fn put_point(x: u32, out: &mut [u8], at: usize) -> usize
     requires { ⌜ (x ≤ 0xFFFF) × (at + length (bytesOf x) ≤ length (now out)) ⌝ }
     ensures { λ r. ⌜ (r ≡ at + length (bytesOf x)) × (now (out .exit) ≡ paste (now (out .entry)) at (bytesOf x) (length (bytesOf x))) ⌝ }
 {

@@ -11,6 +11,8 @@ use lib.ListN.{length, drop, getD, drop-of-length-le}
 use lib.Seq.{drop-cons, drop-drop}
 use Rattle.ucd.specs.Table.{Table, All, Atom, member, decomposition, pickText}
 use Rattle.ucd.specs.Full.{full}
+use Rattle.ucd.specs.Answer.{textOf}
+use Rattle.ucd.specs.declared.Mapping.{Mapping}
 use Rattle.ucd.specs.Unicode16.{unicode16}
 use Rattle.ucd.proofs.Unicode16.{member-below, low-atom, full-itself, full-one, full-two, full-length}
 use Rattle.ji.specs.Utf8.{widthAt, pointAt}
@@ -20,6 +22,10 @@ use Rattle.ji.proofs.Decomposition.{full-nil, full-append}
 use Rattle.ji.proofs.utf8.Decoding.{drop-rest}
 
 -- ── what a code point spreads to
+-- what the lookup told of a code point is its decomposition
+pub told : (c : ℕ) {answer x : Mapping} → textOf c answer ≡ decomposition unicode16 c → answer ≡ x → decomposition unicode16 c ≡ textOf c x
+told c says is = sym says ∙ ap (textOf c) is
+
 module _ (t : Table) where
   pub spread-nil : (d : Bool) → spread t d [] ≡ []
   unfolding spread
@@ -45,10 +51,14 @@ unfolding spread
 spread-length true c = full-length c
 spread-length false c = omega arith
 
-pub spread-low : (d : Bool) (c : ℕ) → c < 0xC0 → length (spread unicode16 d (c ∷ [])) ≡ 1
+-- what lies below 00C0 stays as it is
+pub spread-itself : (d : Bool) (c : ℕ) → c < 0xC0 → spread unicode16 d (c ∷ []) ≡ c ∷ []
 unfolding spread
-spread-low true c h = ap length (full-itself c (low-atom c h))
-spread-low false c h = refl
+spread-itself true c h = full-itself c (low-atom c h)
+spread-itself false c h = refl
+
+pub spread-low : (d : Bool) (c : ℕ) → c < 0xC0 → length (spread unicode16 d (c ∷ [])) ≡ 1
+spread-low d c h = ap length (spread-itself d c h)
 
 -- ── which texts are accepted
 module _ (t : Table) where

@@ -71,44 +71,58 @@ onto-more : (w : List ℕ) (x : ℕ) (o : Option (List ℕ)) → onto w (more x 
 onto-more w x none = refl
 onto-more w x (some s) = ap some (sym (append-assoc w (x ∷ []) s))
 
+-- the first i bytes of s are read: their code points are the text u, all of it in the table
+pub record Taken (t : Table) (s u : List ℕ) (i : ℕ) : Type 0 where
+  pub inside : members t u ≡ true
+  pub decoded : decode s ≡ onto u (decode (drop i s))
+  pub stops : accepted t s ≡ u ++ accepted t (drop i s)
+
+module _ (t : Table) (s : List ℕ) where
+  pub taken-start : Taken t s [] 0
+  unfolding members
+  taken-start = record { inside = refl; decoded = onto-nil (decode s); stops = refl }
+
+  module _ (u : List ℕ) (i : ℕ) (r : Taken t s u i) where
+    -- the whole text is good
+    pub taken-end : length s ≤ i → checkPoints t (decode s) ≡ good u
+    taken-end h =
+        ap (checkPoints t) (r .decoded ∙ ap (onto u) (decode-end s i h) ∙ ap some (append-nil u))
+        ∙ ap (λ (b : Bool). pickChecked b (good u) (bad OutsideTable)) (r .inside)
+
+    -- nothing more is accepted: what is accepted of the text is what was taken
+    taken-all : accepted t (drop i s) ≡ [] → accepted t s ≡ u
+    taken-all e = r .stops ∙ ap (λ (l : List ℕ). u ++ l) e ∙ append-nil u
+
+    -- one more code point
+    pub taken-more : i < length s → 0 < widthAt (drop i s) → member t (pointAt (drop i s)) ≡ true → Taken t s (u ++ (pointAt (drop i s) ∷ [])) (i + widthAt (drop i s))
+    taken-more h k m =
+        record {
+          inside = members-append t u (pointAt (drop i s) ∷ []) (r .inside) ∙ members-one t (pointAt (drop i s)) m;
+          decoded = r .decoded ∙ ap (onto u) (decode-at s i h k) ∙ onto-more u (pointAt (drop i s)) (decode (drop (i + widthAt (drop i s)) s));
+          stops = r .stops ∙ ap (λ (l : List ℕ). u ++ l) (accepted-at t s i h k m) ∙ sym (append-assoc u (pointAt (drop i s) ∷ []) (accepted t (drop (i + widthAt (drop i s)) s)));
+        }
+
 -- the first i bytes of s are read, and n code points stand in the buffer
 pub record Read (t : Table) (d : Bool) (s before after : List ℕ) (i n : ℕ) : Type 0 where
   pub taken : List ℕ
+  pub text : Taken t s taken i
   pub short : 2 * n ≤ 3 * i
-  pub inside : members t taken ≡ true
-  pub decoded : decode s ≡ onto taken (decode (drop i s))
-  pub stops : accepted t s ≡ taken ++ accepted t (drop i s)
   pub written : Written before after n (spread t d taken)
 
 module _ (t : Table) (d : Bool) (s before : List ℕ) where
   pub read-start : Read t d s before before 0 0
-  unfolding members
-  read-start =
-      record {
-        taken = [];
-        short = omega arith;
-        inside = refl;
-        decoded = onto-nil (decode s);
-        stops = refl;
-        written = rw (spread-nil t d) (written-none before);
-      }
+  read-start = record { taken = []; text = taken-start t s; short = omega arith; written = rw (spread-nil t d) (written-none before) }
 
   module _ (after : List ℕ) (i n : ℕ) (r : Read t d s before after i n) where
     -- the buffer of a text that is refused here
     left : accepted t (drop i s) ≡ [] → Written before after (length (spread t d (accepted t s))) (spread t d (accepted t s))
-    left e =
-        let a : accepted t s ≡ r .taken = r .stops ∙ ap (λ (l : List ℕ). r .taken ++ l) e ∙ append-nil (r .taken) in
-        rw (a, r .written .size) (r .written)
+    left e = rw (taken-all t s (r .taken) i (r .text) e, r .written .size) (r .written)
 
     none-left : accepted t (drop i s) ≡ [] → decode (drop i s) ≡ none → Reading t d s before after (Refused IllFormed)
-    none-left e o = (ap (checkPoints t) (r .decoded ∙ ap (onto (r .taken)) o), left e)
+    none-left e o = (ap (checkPoints t) (r .text .decoded ∙ ap (onto (r .taken)) o), left e)
 
     pub read-end : length s ≤ i → Reading t d s before after (Points (record { 0 = n }))
-    read-end h = (
-      r .taken,
-      ap (checkPoints t) (r .decoded ∙ ap (onto (r .taken)) (decode-end s i h) ∙ ap some (append-nil (r .taken))) ∙ ap (λ (b : Bool). pickChecked b (good (r .taken)) (bad OutsideTable)) (r .inside),
-      r .written,
-    )
+    read-end h = (r .taken, taken-end t s (r .taken) i (r .text) h, r .written)
 
     module _ (h : i < length s) where
       pub read-ill : widthAt (drop i s) ≡ 0 → Reading t d s before after (Refused IllFormed)
@@ -120,8 +134,8 @@ module _ (t : Table) (d : Bool) (s before : List ℕ) where
           found : (o : Option (List ℕ)) → decode (drop (i + widthAt (drop i s)) s) ≡ o → isDecoded (more (pointAt (drop i s)) o) ≡ true → Reading t d s before after (Refused OutsideTable)
           found none e f = absurd (false-true f)
           found (some u) e f = (
-            ap (checkPoints t) (r .decoded ∙ ap (onto (r .taken)) (decode-at s i h k ∙ ap (more (pointAt (drop i s))) e))
-                ∙ ap (λ (b : Bool). pickChecked b (good (r .taken ++ (pointAt (drop i s) ∷ u))) (bad OutsideTable)) (members-not t (r .taken) (pointAt (drop i s)) u (r .inside) m),
+            ap (checkPoints t) (r .text .decoded ∙ ap (onto (r .taken)) (decode-at s i h k ∙ ap (more (pointAt (drop i s))) e))
+                ∙ ap (λ (b : Bool). pickChecked b (good (r .taken ++ (pointAt (drop i s) ∷ u))) (bad OutsideTable)) (members-not t (r .taken) (pointAt (drop i s)) u (r .text .inside) m),
             left (accepted-outside t s i h k m),
           )
 
@@ -146,9 +160,7 @@ module _ (t : Table) (d : Bool) (s before : List ℕ) where
               let q = r .short in
               record {
                 taken = r .taken ++ (p ∷ []);
+                text = taken-more t s (r .taken) i (r .text) h k m;
                 short = omega arith;
-                inside = members-append t (r .taken) (p ∷ []) (r .inside) ∙ members-one t p m;
-                decoded = r .decoded ∙ ap (onto (r .taken)) (decode-at s i h k) ∙ onto-more (r .taken) p (decode (drop (i + widthAt (drop i s)) s));
-                stops = r .stops ∙ ap (λ (l : List ℕ). r .taken ++ l) (accepted-at t s i h k m) ∙ sym (append-assoc (r .taken) (p ∷ []) (accepted t (drop (i + widthAt (drop i s)) s)));
                 written = rw (spread-append t d (r .taken) (p ∷ [])) (written-run (r .written) (spread t d (p ∷ [])) room);
               }

@@ -1,4 +1,6 @@
 // `strip_tone_diacritic`: a text without its tone marks, and its tone.
+use crate::lomaji::quick;
+use crate::lomaji::quick::Outcome;
 use crate::nfd;
 use crate::reply::Refusal;
 use crate::tone::Tone;
@@ -34,7 +36,7 @@ pub enum Strip {
 }
 
 // The tone of a mark, None of any other code point.
-fn mark_tone(c: u16) -> Tone
+pub(crate) fn mark_tone(c: u16) -> Tone
     ensures { λ r. ⌜ r ≡ markTone c ⌝ }
 {
     match c {
@@ -194,8 +196,8 @@ fn strip_in(text: &[u8], points: &mut [u16], out: &mut [u8]) -> Strip
     }
 }
 
-// A text of at most 32 bytes: clearing a small buffer is quicker.
-fn strip_short(text: &[u8], out: &mut [u8]) -> Strip
+// In a buffer for a text of at most 32 bytes: clearing a small one is quicker.
+fn strip_in_short(text: &[u8], out: &mut [u8]) -> Strip
     requires { ⌜ length (now text) ≤ 32 ⌝ }
     ensures { λ r. ⌜ stripReply r (now (out .exit)) ≡ stripCall unicode16 (now (text .entry)) (now (out .entry)) ⌝ }
 {
@@ -203,12 +205,69 @@ fn strip_short(text: &[u8], out: &mut [u8]) -> Strip
     strip_in(text, &mut points, out)
 }
 
-fn strip_long(text: &[u8], out: &mut [u8]) -> Strip
+// In a buffer for any text.
+fn strip_in_long(text: &[u8], out: &mut [u8]) -> Strip
     requires { ⌜ length (now text) ≤ 256 ⌝ }
     ensures { λ r. ⌜ stripReply r (now (out .exit)) ≡ stripCall unicode16 (now (text .entry)) (now (out .entry)) ⌝ }
 {
     let mut points = [0u16; 384];
     strip_in(text, &mut points, out)
+}
+
+// Strips a text step by step: what the quick walk gives up.
+fn strip_slowly(text: &[u8], out: &mut [u8]) -> Strip
+    requires { ⌜ length (now text) ≤ 256 ⌝ }
+    ensures { λ r. ⌜ stripReply r (now (out .exit)) ≡ stripCall unicode16 (now (text .entry)) (now (out .entry)) ⌝ }
+{
+    if text.len() <= 32 {
+        return strip_in_short(text, out);
+    }
+    strip_in_long(text, out)
+}
+
+// Writes the bytes of a stripped text to `out`, and answers its length and its tone.
+fn place_bytes(s: &[u8], last: Tone, out: &mut [u8]) -> Strip
+    ensures { λ r. ⌜ stripReply r (now (out .exit)) ≡ placed (toneNumber (toneOr last (unmarkedTone (now (s .entry))))) (now (s .entry)) (now (out .entry)) ⌝ }
+{
+    if out.len() < s.len() {
+        return Strip::Refused(Refusal::NoRoom);
+    }
+    quick::copy(s, out);
+    Strip::Done(StripResult {
+        len: ByteLen(s.len()),
+        tone: tone_of(last, s),
+    })
+}
+
+// Strips a text in one walk into a buffer of bytes, or else step by step.
+fn strip_by(text: &[u8], bytes: &mut [u8], out: &mut [u8]) -> Strip
+    requires { ⌜ (length (now text) ≤ 256) × (length (now text) ≤ length (now bytes)) × (length (now bytes) ≤ 65536) ⌝ }
+    ensures { λ r. ⌜ stripReply r (now (out .exit)) ≡ stripCall unicode16 (now (text .entry)) (now (out .entry)) ⌝ }
+{
+    match quick::walk(text, bytes) {
+        Outcome::GivenUp => strip_slowly(text, out),
+        Outcome::Whole(len, last) => {
+            let n = len.0;
+            place_bytes(&bytes[0..n], last, out)
+        }
+    }
+}
+
+// A text of at most 32 bytes. Stripping makes a text longer by half at most, so the walk always has room.
+fn strip_short(text: &[u8], out: &mut [u8]) -> Strip
+    requires { ⌜ length (now text) ≤ 32 ⌝ }
+    ensures { λ r. ⌜ stripReply r (now (out .exit)) ≡ stripCall unicode16 (now (text .entry)) (now (out .entry)) ⌝ }
+{
+    let mut bytes = [0u8; 64];
+    strip_by(text, &mut bytes, out)
+}
+
+fn strip_long(text: &[u8], out: &mut [u8]) -> Strip
+    requires { ⌜ length (now text) ≤ 256 ⌝ }
+    ensures { λ r. ⌜ stripReply r (now (out .exit)) ≡ stripCall unicode16 (now (text .entry)) (now (out .entry)) ⌝ }
+{
+    let mut bytes = [0u8; 400];
+    strip_by(text, &mut bytes, out)
 }
 
 // The text without its tone marks, in NFD, in `out`, and its tone.

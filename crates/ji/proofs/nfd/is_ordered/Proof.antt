@@ -1,10 +1,11 @@
 -- `ji::nfd::is_ordered` meets its contract. The loop's invariant: the text is in order just if what is left is, behind the class before.
-use mathlib.Core.Path.{refl}
+use mathlib.Core.Path.{refl, sym}
 use mathlib.Core.Logic.{⊎-elim}
 use Prim.Native.Nat.{_-_}
 use native.Mathlib.Omega.{arith}
-use lib.ListN.{length}
+use lib.ListN.{length, getD}
 use Rattle.ucd.specs.Unicode16.{unicode16}
+use Rattle.ucd.proofs.Unicode16.{low-starter}
 use Rattle.ji.proofs.Cases.{true-not-false}
 use Rattle.ji.proofs.OrderLoops.{Checking, checking-start, checking-more, checking-pair, checking-end}
 use Rattle.ji.proofs.nfd.is_ordered.Statement.{statement}
@@ -19,21 +20,11 @@ abbrev μ-loop : tie.MeasureT-loop
 loop-holds : tie.Need-loop-holds Inv-loop μ-loop
 loop-holds c = checking-start unicode16 (c .before .args .s .now)
 
-mul-class-of : tie.Need-mul-class-of Inv-loop μ-loop
-mul-class-of c = omega arith
+mul-c : tie.Need-mul-c Inv-loop μ-loop
+mul-c c = omega arith
 
-shared-slice-read-class-of : tie.Need-shared-slice-read-class-of Inv-loop μ-loop
-shared-slice-read-class-of c = omega arith
-
-class-of-requires : tie.Need-class-of-requires Inv-loop μ-loop
-class-of-requires c κs = tt
-
-returns : tie.Need-returns Inv-loop μ-loop
-returns c =
-    let call = c .before .before in
-    let at = call .before .before in
-    let pair = checking-pair unicode16 (at .before .loop .inv) (at .loop-test .taken) (call .class-of .result) (call .class-of .ensures) in
-    ((λ e. absurd (true-not-false e refl)), λ e. pair (c .if2 .taken) (c .before .if1 .taken))
+shared-slice-read-c : tie.Need-shared-slice-read-c Inv-loop μ-loop
+shared-slice-read-c c = omega arith
 
 add-i : tie.Need-add-i Inv-loop μ-loop
 add-i c = omega arith
@@ -43,10 +34,32 @@ loop-less c = omega arith
 
 loop-again : tie.Need-loop-again Inv-loop μ-loop
 loop-again c =
+    let at = c .before .before in
+    let l = at .before in
+    checking-more unicode16 (l .loop .inv) (at .loop-test .taken) 0 (sym (low-starter (getD (l .before .before .args .s .now) (l .loop .i) 0) (c .if1 .taken))) (λ low high. omega arith)
+
+class-of-requires : tie.Need-class-of-requires Inv-loop μ-loop
+class-of-requires c κs = tt
+
+returns : tie.Need-returns Inv-loop μ-loop
+returns c =
+    let call = c .before .before in
+    let at = call .before .before .before in
+    let pair = checking-pair unicode16 (at .before .loop .inv) (at .loop-test .taken) (call .class-of .result) (call .class-of .ensures) in
+    ((λ e. absurd (true-not-false e refl)), λ e. pair (c .if3 .taken) (c .before .if2 .taken))
+
+add-i-2 : tie.Need-add-i-2 Inv-loop μ-loop
+add-i-2 c = omega arith
+
+loop-less-2 : tie.Need-loop-less-2 Inv-loop μ-loop
+loop-less-2 c = omega arith
+
+loop-again-2 : tie.Need-loop-again-2 Inv-loop μ-loop
+loop-again-2 c =
     let call = c .before in
-    let at = call .before .before in
+    let at = call .before .before .before in
     checking-more unicode16 (at .before .loop .inv) (at .loop-test .taken) (call .class-of .result) (call .class-of .ensures)
-    (λ low high. ⊎-elim (λ w. omega arith) (λ w. omega arith) (c .if1 .came))
+    (λ low high. ⊎-elim (λ w. omega arith) (λ w. omega arith) (c .if2 .came))
 
 returns-2 : tie.Need-returns-2 Inv-loop μ-loop
 returns-2 c = (
@@ -61,11 +74,14 @@ is-ordered-spec =
     Inv-loop
     μ-loop
     loop-holds
-    mul-class-of
-    shared-slice-read-class-of
-    class-of-requires
-    returns
+    mul-c
+    shared-slice-read-c
     add-i
     loop-less
     loop-again
+    class-of-requires
+    returns
+    add-i-2
+    loop-less-2
+    loop-again-2
     returns-2)

@@ -81,8 +81,8 @@ module _ (d : Bool) (s before out : List ℕ) (i n w p : ℕ) (r : Read unicode1
 loop-holds : tie.Need-loop-holds Inv-loop μ-loop
 loop-holds c = let a = c .before .before .args in read-start unicode16 (a .decomposed) (a .s .now) (a .out .now)
 
-read-at-requires : tie.Need-read-at-requires Inv-loop μ-loop
-read-at-requires c κs = omega arith
+read-requires : tie.Need-read-requires Inv-loop μ-loop
+read-requires c κs = omega arith
 
 same-length : tie.Need-same-length Inv-loop μ-loop
 same-length c = written-length (c .before .before .before .loop .inv .written)
@@ -91,7 +91,7 @@ returns : tie.Need-returns Inv-loop μ-loop
 returns c =
     let l = c .before .before .before in
     let a = l .before .before .before .args in
-    read-ill unicode16 (a .decomposed) (a .s .now) (a .out .now) (l .loop .out) (l .loop .i) (l .loop .n) (l .loop .inv) (c .before .before .loop-test .taken) (sym (c .before .read-at .ensures .wide) ∙ c .if1 .taken)
+    read-ill unicode16 (a .decomposed) (a .s .now) (a .out .now) (l .loop .out) (l .loop .i) (l .loop .n) (l .loop .inv) (c .before .before .loop-test .taken) (sym (c .before .read .ensures .wide) ∙ c .if1 .taken)
 
 is-member-requires : tie.Need-is-member-requires Inv-loop μ-loop
 is-member-requires c κs = search needs
@@ -101,7 +101,7 @@ cast-spread-point c =
     let l = c .before .before .before .before .before in
     let a = l .before .before .before in
     let x = a .args in
-    let k = low (x .decomposed) (x .s .now) (x .out .now) (l .loop .out) (l .loop .i) (l .loop .n) _ _ (l .loop .inv) (c .before .before .before .before .loop-test .taken) (c .before .before .before .read-at .ensures) (c .before .before .if1 .left) (sym (c .if2 .taken) ∙ c .before .is-member .ensures) in
+    let k = low (x .decomposed) (x .s .now) (x .out .now) (l .loop .out) (l .loop .i) (l .loop .n) _ _ (l .loop .inv) (c .before .before .before .before .loop-test .taken) (c .before .before .before .read .ensures) (c .before .before .if1 .left) (sym (c .if2 .taken) ∙ c .before .is-member .ensures) in
     omega arith
 
 spread-point-requires : tie.Need-spread-point-requires Inv-loop μ-loop
@@ -113,7 +113,7 @@ put-requires c κs =
     let a = l .before .before .before in
     let x = a .args in
     let g = c .before .before in
-    room-left (x .decomposed) (x .s .now) (x .out .now) (l .loop .out) (l .loop .i) (l .loop .n) _ _ (l .loop .inv) (g .before .before .before .before .loop-test .taken) (g .before .before .before .read-at .ensures) (g .before .before .if1 .left) (sym (g .if2 .taken) ∙ g .before .is-member .ensures) (c .before .spread-point .result) (c .before .spread-point .ensures) (a .pre)
+    room-left (x .decomposed) (x .s .now) (x .out .now) (l .loop .out) (l .loop .i) (l .loop .n) _ _ (l .loop .inv) (g .before .before .before .before .loop-test .taken) (g .before .before .before .read .ensures) (g .before .before .if1 .left) (sym (g .if2 .taken) ∙ g .before .is-member .ensures) (c .before .spread-point .result) (c .before .spread-point .ensures) (a .pre)
 
 add-i : tie.Need-add-i Inv-loop μ-loop
 add-i c =
@@ -121,7 +121,7 @@ add-i c =
     let a = l .before .before .before in
     let x = a .args in
     let g = c .before .before .before .before .before in
-    let k = step (x .decomposed) (x .s .now) (x .out .now) (l .loop .out) (l .loop .i) (l .loop .n) _ _ (l .loop .inv) (g .before .before .before .before .loop-test .taken) (g .before .before .before .read-at .ensures) (g .before .before .if1 .left) in
+    let k = step (x .decomposed) (x .s .now) (x .out .now) (l .loop .out) (l .loop .i) (l .loop .n) _ _ (l .loop .inv) (g .before .before .before .before .loop-test .taken) (g .before .before .before .read .ensures) (g .before .before .if1 .left) in
     omega arith
 
 loop-less : tie.Need-loop-less Inv-loop μ-loop
@@ -137,7 +137,7 @@ loop-again c =
     let x = a .args in
     let g = c .before .before .before .before .before in
     let u = c .before .before in
-    again (x .decomposed) (x .s .now) (x .out .now) (l .loop .out) (l .loop .i) (l .loop .n) _ _ (l .loop .inv) (g .before .before .before .before .loop-test .taken) (g .before .before .before .read-at .ensures) (g .before .before .if1 .left) (sym (g .if2 .taken) ∙ g .before .is-member .ensures) (u .before .before .spread-point .result) (u .before .before .spread-point .ensures) (a .pre) (u .put .result) (u .put .last .1 .0) (u .put .ensures .0) (u .put .ensures .1)
+    again (x .decomposed) (x .s .now) (x .out .now) (l .loop .out) (l .loop .i) (l .loop .n) _ _ (l .loop .inv) (g .before .before .before .before .loop-test .taken) (g .before .before .before .read .ensures) (g .before .before .if1 .left) (sym (g .if2 .taken) ∙ g .before .is-member .ensures) (u .before .before .spread-point .result) (u .before .before .spread-point .ensures) (a .pre) (u .put .result) (u .put .last .1 .0) (u .put .ensures .0) (u .put .ensures .1)
 
 well-formed-requires : tie.Need-well-formed-requires Inv-loop μ-loop
 well-formed-requires c κs = omega arith
@@ -151,7 +151,7 @@ returns-2 c =
     let a = l .before .before .before in
     let x = a .args in
     let g = c .before .before in
-    returns-outside (x .decomposed) (x .s .now) (x .out .now) (l .loop .out) (l .loop .i) (l .loop .n) _ _ (l .loop .inv) (g .before .before .before .before .loop-test .taken) (g .before .before .before .read-at .ensures) (g .before .before .if1 .left) (sym (g .if2 .left) ∙ g .before .is-member .ensures) (sym (c .before .well-formed .ensures) ∙ c .if3 .taken)
+    returns-outside (x .decomposed) (x .s .now) (x .out .now) (l .loop .out) (l .loop .i) (l .loop .n) _ _ (l .loop .inv) (g .before .before .before .before .loop-test .taken) (g .before .before .before .read .ensures) (g .before .before .if1 .left) (sym (g .if2 .left) ∙ g .before .is-member .ensures) (sym (c .before .well-formed .ensures) ∙ c .if3 .taken)
 
 same-length-3 : tie.Need-same-length-3 Inv-loop μ-loop
 same-length-3 c = written-length (c .before .before .before .before .before .before .before .loop .inv .written)
@@ -162,7 +162,7 @@ returns-3 c =
     let a = l .before .before .before in
     let x = a .args in
     let g = c .before .before in
-    returns-ill (x .decomposed) (x .s .now) (x .out .now) (l .loop .out) (l .loop .i) (l .loop .n) _ _ (l .loop .inv) (g .before .before .before .before .loop-test .taken) (g .before .before .before .read-at .ensures) (g .before .before .if1 .left) (sym (g .if2 .left) ∙ g .before .is-member .ensures) (sym (c .before .well-formed .ensures) ∙ c .if3 .left)
+    returns-ill (x .decomposed) (x .s .now) (x .out .now) (l .loop .out) (l .loop .i) (l .loop .n) _ _ (l .loop .inv) (g .before .before .before .before .loop-test .taken) (g .before .before .before .read .ensures) (g .before .before .if1 .left) (sym (g .if2 .left) ∙ g .before .is-member .ensures) (sym (c .before .well-formed .ensures) ∙ c .if3 .left)
 
 same-length-4 : tie.Need-same-length-4 Inv-loop μ-loop
 same-length-4 c = written-length (c .before .loop .inv .written)
@@ -181,7 +181,7 @@ decode-spec =
     Inv-loop
     μ-loop
     loop-holds
-    read-at-requires
+    read-requires
     same-length
     returns
     is-member-requires
