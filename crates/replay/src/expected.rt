@@ -2,7 +2,6 @@
 use crate::record::Header;
 use robinflint::reply::Reply;
 ghost use mathlib.Core.Path.{_≡_};
-ghost use mathlib.Core.Bool.{_&&_, _||_};
 ghost use mathlib.Core.List.{[]};
 ghost use lib.ListN.{length};
 ghost use Rattle.robinflint.specs.Reply.{replyOf};
