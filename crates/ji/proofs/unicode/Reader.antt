@@ -13,17 +13,16 @@ use Rattle.ucd.specs.Unicode16.{unicode16}
 use Rattle.ji.specs.Written.{Written}
 use Rattle.ji.specs.Utf8.{widthAt, pointAt, more, decode, isDecoded, bytesOf}
 use Rattle.ji.specs.Unicode.{members, accepted, spread}
-use Rattle.ji.specs.Reply.{Checked, good, bad, pickChecked, checkPoints}
+use Rattle.ji.specs.Reply.{good, bad, pickChecked, checkPoints}
 use Rattle.ji.specs.Reading.{Reading}
-use Rattle.ji.specs.declared.reply.Refusal.{Refusal}
 use Rattle.ji.specs.declared.reply.Refusal.the-variants.{IllFormed, OutsideTable}
 use Rattle.ji.specs.declared.unicode.Decoded.the-variants.{Points, Refused}
 use Rattle.ji.proofs.Bools.{false-true}
-use Rattle.ji.proofs.Writing.{written-none, written-run, written-length}
+use Rattle.ji.proofs.Writing.{written-none, written-run}
 use Rattle.ji.proofs.utf8.Encoding.{bytes-one, bytes-two, bytes-three, bytes-four}
 use Rattle.ji.proofs.utf8.Decoding.{width-length, decode-at-ill, decode-at, decode-end}
 use Rattle.ji.proofs.utf8.RoundTrip.{bytes-back}
-use Rattle.ji.proofs.unicode.Laws.{spread-nil, spread-append, spread-length, spread-low, members-append, members-not, members-one, accepted-ill, accepted-outside, accepted-at, accepted-end}
+use Rattle.ji.proofs.unicode.Laws.{spread-nil, spread-append, spread-length, spread-low, members-append, members-not, members-one, accepted-ill, accepted-outside, accepted-at}
 
 -- ── room: a text of n bytes spreads to at most three code points for two bytes
 bytes-many : (c : ℕ) → 0x7F < c → 2 ≤ length (bytesOf c)

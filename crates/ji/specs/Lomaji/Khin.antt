@@ -9,14 +9,15 @@ use Rattle.ji.specs.Utf8.{bytes}
 use Rattle.ji.specs.declared.lomaji.khin.Khin.{Khin}
 use Rattle.ji.specs.declared.lomaji.khin.Khin.the-variants.{No, Yes}
 
--- "`strip_khin` removes one leading "--", else one leading 00B7, and hands back the rest"; s are the bytes of a text
 abbrev pub pickKhin : Bool → Khin → Khin → Khin
 pickKhin true a b = a
 pickKhin false a b = b
 
+-- "`strip_khin` removes one leading "--", else one leading 00B7, and hands back the rest"; s are the bytes of a text
 unfoldable pub afterKhin : List ℕ → List ℕ
 afterKhin s = pickText (begins (bytes "--") s) (drop (length (bytes "--")) s) (pickText (begins (bytes "·") s) (drop (length (bytes "·")) s) s)
 
+-- whether there was one
 unfoldable pub khinOf : List ℕ → Khin
 khinOf s = pickKhin (begins (bytes "--") s || begins (bytes "·") s) Yes No
 

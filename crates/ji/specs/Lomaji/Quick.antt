@@ -1,6 +1,6 @@
 -- The quick way to strip a text, in one walk: what holds while it goes on, and what it gives.
 use mathlib.Core.Path.{_≡_}
-use mathlib.Core.Bool.{Bool, true, false}
+use mathlib.Core.Bool.{true}
 use mathlib.Core.List.{List, [], _∷_, _++_}
 use Prim.Native.Nat.{ℕ, _/_, _%_, _<_}
 use Rattle.ucd.specs.Table.{decomposition}

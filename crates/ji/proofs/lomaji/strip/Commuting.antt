@@ -1,7 +1,7 @@
 -- Stripping and canonical order: a text may be stripped before it is put in order. The tone marks are all of one class, so they keep their
 -- order among each other, and what is left is put in order as if they had never been there.
 use mathlib.Core.Path.{_≡_, refl, sym, ap, _∙_}
-use mathlib.Core.Bool.{Bool, true, false, _||_}
+use mathlib.Core.Bool.{true, false, _||_}
 use mathlib.Core.List.{List, [], _∷_}
 use Prim.Native.Nat.{ℕ, _<_}
 use native.Mathlib.Decide.{decLt}

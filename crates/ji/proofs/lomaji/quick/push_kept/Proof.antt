@@ -1,5 +1,4 @@
 use mathlib.Core.Path.{_≡_}
-use mathlib.Core.Bool.{false}
 use mathlib.Core.List.{List, [], _∷_, _++_}
 use Prim.Native.Nat.{ℕ, _+_, _≤_}
 use lib.ListN.{length}
@@ -7,7 +6,7 @@ use lib.Seq.{paste}
 use Rattle.ucd.proofs.Unicode16.{low-starter}
 use Rattle.ji.specs.Written.{Written}
 use Rattle.ji.specs.Utf8.{bytesOf, encode}
-use Rattle.ji.specs.Lomaji.Strip.{isToneMark, withoutMarks}
+use Rattle.ji.specs.Lomaji.Strip.{withoutMarks}
 use Rattle.ji.specs.Lomaji.Quick.{Stripping}
 use Rattle.ji.specs.declared.lomaji.quick.Progress.{Progress}
 use Rattle.ji.proofs.Writing.{written-length}

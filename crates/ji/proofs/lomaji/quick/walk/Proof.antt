@@ -1,4 +1,4 @@
-use mathlib.Core.Path.{_≡_, sym, ap, _∙_, subst}
+use mathlib.Core.Path.{_≡_, sym, _∙_, subst}
 use mathlib.Core.Bool.{true}
 use mathlib.Core.List.{List, [], _∷_}
 use Prim.Native.Nat.{ℕ, _+_, _-_, _≤_, _<_}
@@ -8,7 +8,7 @@ use Rattle.ucd.specs.Table.{member}
 use Rattle.ucd.specs.Full.{full}
 use Rattle.ucd.specs.Unicode16.{unicode16}
 use Rattle.ucd.proofs.Unicode16.{member-below}
-use Rattle.ji.specs.Utf8.{ReadOf, widthAt}
+use Rattle.ji.specs.Utf8.{ReadOf}
 use Rattle.ji.specs.Lomaji.Quick.{Further}
 use Rattle.ji.specs.declared.lomaji.quick.Progress.{Progress}
 use Rattle.ji.proofs.Writing.{written-length}

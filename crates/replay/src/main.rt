@@ -1,4 +1,5 @@
-// Replays lists of the Rust's answers: each record of a list is a call, and what the Rust replied to it.
+// Replays fixed lists, which standard input holds: the Rust's answers to the calls of `ji`, then the rows of NormalizationTest.txt. Each record of a
+// list is a call and the reply to it. Prints a line for each call: how many records there were, and how many replies differed.
 mod calls;
 mod expected;
 mod program;
@@ -15,7 +16,6 @@ ghost use lib.ListN.{length};
 ghost use Rattle.replay.specs.Record.{replayable};
 ghost use Rattle.replay.specs.Expected.{Says};
 ghost use Rattle.replay.specs.Replay.{Agrees};
-pub use program::run;
 
 // Whether the call of a record replies as the record says. `body` is the record behind its header.
 fn agrees(h: Header, body: &[u8]) -> bool
@@ -27,4 +27,8 @@ fn agrees(h: Header, body: &[u8]) -> bool
     let mut buffer = fresh_buffer();
     let reply = answer(h, &body[..input], &mut buffer);
     is_as_said(h, &body[input..end], reply, &buffer)
+}
+
+fn main() {
+    program::run();
 }
