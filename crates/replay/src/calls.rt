@@ -8,7 +8,7 @@ ghost use Rattle.robinflint.specs.Reply.{replyOf};
 ghost use Rattle.replay.specs.Calls.{answerOf};
 
 // Makes the call of a header, with the first bytes of `buffer` lent to it where it takes a buffer.
-pub fn answer(h: Header, text: &[u8], buffer: &mut [u8]) -> Reply
+pub(crate) fn answer(h: Header, text: &[u8], buffer: &mut [u8]) -> Reply
     requires { ⌜ (h .call ≤ 6) × (h .lent ≤ length (now buffer)) ⌝ }
     ensures { λ r. ⌜ replyOf r (now (buffer .exit)) ≡ answerOf h (now (text .entry)) (now (buffer .entry)) ⌝ }
 {

@@ -8,14 +8,14 @@ ghost use Rattle.robinflint.specs.Reply.{replyOf};
 ghost use Rattle.replay.specs.Expected.{Says, untouched, written, said, sameNumbers, AsSaid};
 
 // A buffer before a call. A call is lent at most 2,048 bytes, so there are some behind them.
-pub fn fresh_buffer() -> [u8; 2112]
+pub(crate) fn fresh_buffer() -> [u8; 2112]
     ensures { λ r. ⌜ (r ≡ untouched 2112) × (2112 ≡ length r) ⌝ }
 {
     [0xA5; 2112]
 }
 
 // Whether no byte has changed since `fresh_buffer`.
-pub fn is_untouched(bytes: &[u8]) -> bool
+pub(crate) fn is_untouched(bytes: &[u8]) -> bool
     ensures { λ r. ⌜ Says r (now (bytes .entry) ≡ untouched (length (now (bytes .entry)))) ⌝ }
 {
     let mut i = 0;
@@ -29,7 +29,7 @@ pub fn is_untouched(bytes: &[u8]) -> bool
 }
 
 // How many bytes the call is to write.
-pub fn bytes_written(h: Header) -> usize
+pub(crate) fn bytes_written(h: Header) -> usize
     ensures { λ r. ⌜ r ≡ written h ⌝ }
 {
     let call = h.call;
@@ -41,7 +41,7 @@ pub fn bytes_written(h: Header) -> usize
 }
 
 // Whether the numbers of a reply are the header's.
-pub fn has_numbers(reply: Reply, h: Header) -> bool
+pub(crate) fn has_numbers(reply: Reply, h: Header) -> bool
     ensures { λ r. ⌜ r ≡ sameNumbers (replyOf reply []) (said h []) ⌝ }
 {
     (reply.code == h.code as u64)
@@ -54,7 +54,7 @@ pub fn has_numbers(reply: Reply, h: Header) -> bool
 }
 
 // Whether a reply and the buffer are as the record says, whose output is `wanted`.
-pub fn is_as_said(h: Header, wanted: &[u8], reply: Reply, buffer: &[u8]) -> bool
+pub(crate) fn is_as_said(h: Header, wanted: &[u8], reply: Reply, buffer: &[u8]) -> bool
     ensures { λ r. ⌜ Says r (AsSaid h (now (wanted .entry)) (replyOf reply (now (buffer .entry)))) ⌝ }
 {
     let n = wanted.len();

@@ -108,7 +108,7 @@ fn print_line(name: &[u8], records: u64, different: u64) {
     io::write_all(1, b"\n");
 }
 
-pub fn run() {
+pub(crate) fn run() {
     let t = replay_all();
     let all = t.records;
     let different = t.different;

@@ -29,7 +29,7 @@ fn pair(low: u8, high: u8) -> usize
     low as usize + 256 * (high as usize)
 }
 
-pub fn read(bytes: &[u8; 16]) -> Header
+pub(crate) fn read(bytes: &[u8; 16]) -> Header
     ensures { λ r. ⌜ r ≡ headerOf (now (bytes .entry)) ⌝ }
 {
     Header {
@@ -48,7 +48,7 @@ pub fn read(bytes: &[u8; 16]) -> Header
 }
 
 // Whether there is such a call, and room for the record.
-pub fn is_replayable(h: Header) -> bool
+pub(crate) fn is_replayable(h: Header) -> bool
     ensures { λ r. ⌜ r ≡ replayable h ⌝ }
 {
     (h.call <= 6) & (h.input <= MOST) & (h.lent <= MOST) & (h.wanted <= MOST)
