@@ -9,7 +9,7 @@ use borrow.Author.Tests.{le-leb, lt-leb}
 use Rattle.ucd.specs.Table.{Table}
 use Rattle.ji.specs.Written.{Written}
 use Rattle.ji.specs.Utf8.{decode, encode}
-use Rattle.ji.specs.Reply.{Reply, refused, over, answered, pickReply, placed, Checked, good, bad, pickChecked, checkPoints, checkText, textOf, textCall}
+use Rattle.ji.specs.Reply.{Reply, refused, over, answered, pickReply, placed, Checked, good, bad, pickChecked, checkPoints, checkWithin, checkText, textOf, textCall}
 use Rattle.ji.specs.declared.reply.Refusal.{Refusal}
 use Rattle.ji.specs.declared.reply.Refusal.the-variants.{TooLong, NoRoom}
 
@@ -26,13 +26,21 @@ module _ (tone : ℕ) (output buffer : List ℕ) where
   placed-written n after w = rw (w .is, ← w .size) (placed-whole (rw (w .size) (w .fits)))
 
 module _ (t : Table) (s : List ℕ) where
+  pub within-long : (limit : ℕ) → limit < length s → checkWithin t limit s ≡ bad TooLong
+  unfolding checkWithin
+  within-long limit h = ap (λ (b : Bool). pickChecked b (checkPoints t (decode s)) (bad TooLong)) (lt-leb (length s) limit h)
+
+  pub within-points : (limit : ℕ) → length s ≤ limit → checkWithin t limit s ≡ checkPoints t (decode s)
+  unfolding checkWithin
+  within-points limit h = ap (λ (b : Bool). pickChecked b (checkPoints t (decode s)) (bad TooLong)) (le-leb (length s) limit h)
+
   pub check-long : 256 < length s → checkText t s ≡ bad TooLong
   unfolding checkText
-  check-long h = ap (λ (b : Bool). pickChecked b (checkPoints t (decode s)) (bad TooLong)) (lt-leb (length s) 256 h)
+  check-long h = within-long 256 h
 
   pub check-within : length s ≤ 256 → checkText t s ≡ checkPoints t (decode s)
   unfolding checkText
-  check-within h = ap (λ (b : Bool). pickChecked b (checkPoints t (decode s)) (bad TooLong)) (le-leb (length s) 256 h)
+  check-within h = within-points 256 h
 
 -- a call that gives one text
 module _ (t : Table) (f : List ℕ → List ℕ) (text buffer : List ℕ) where

@@ -7,5 +7,6 @@ pub mod Nfd
 pub mod Nfc
 pub mod Reply
 pub mod Reading
+pub mod Normalising
 pub mod Tone
 pub mod Lomaji

@@ -10,6 +10,7 @@ use Rattle.ji.specs.Utf8.{decode, encode}
 use Rattle.ji.specs.Unicode.{members}
 use Rattle.ji.specs.declared.reply.Refusal.{Refusal}
 use Rattle.ji.specs.declared.reply.Refusal.the-variants.{Argument, TooLong, IllFormed, OutsideTable, Parts, Position, NoRoom}
+use Rattle.ji.specs.declared.unicode.Verdict.{Verdict}
 use Rattle.ji.specs.declared.reply.TextAnswer.{TextAnswer}
 use Rattle.ji.specs.declared.reply.TextAnswer.the-variants.{Done, Refused}
 
@@ -76,9 +77,17 @@ abbrev pub checkPoints : Table → Option (List ℕ) → Checked
 checkPoints t none = bad IllFormed
 checkPoints t (some s) = pickChecked (members t s) (good s) (bad OutsideTable)
 
--- "2: text above 256 bytes"
+-- "2: text above 256 bytes (a dictionary entry: above 1,024)"
+unfoldable pub checkWithin : Table → ℕ → List ℕ → Checked
+checkWithin t limit s = pickChecked (leb (length s) limit) (checkPoints t (decode s)) (bad TooLong)
+
 unfoldable pub checkText : Table → List ℕ → Checked
-checkText t s = pickChecked (leb (length s) 256) (checkPoints t (decode s)) (bad TooLong)
+checkText t s = checkWithin t 256 s
+
+-- whether it is good, as the code has it
+abbrev pub verdictOf : Checked → Verdict
+verdictOf (good s) = Verdict.Good
+verdictOf (bad why) = Verdict.Refused why
 
 -- ── a call that gives one text
 -- its reply to a text that was checked, and to the bytes of a text; f is what the call makes of its code points

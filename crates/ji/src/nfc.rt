@@ -2,6 +2,8 @@
 use crate::nfd;
 use crate::reply;
 use crate::reply::TextAnswer;
+use crate::unicode;
+use crate::unicode::CharLen;
 use crate::unicode::Decoded;
 ghost use mathlib.Core.Path.{_≡_};
 ghost use mathlib.Core.Bool.{true, false};
@@ -12,6 +14,7 @@ ghost use lib.ListN.{length, drop};
 ghost use Rattle.ucd.specs.Unicode16.{unicode16};
 ghost use Rattle.ji.specs.Utf8.{encode};
 ghost use Rattle.ji.specs.Reply.{placed, textCall, textReply};
+ghost use Rattle.ji.specs.Normalising.{Normalising};
 ghost use Rattle.ji.specs.Nfc.{pickDone, reversed, absorb, compose, nfc};
 
 // R1 and R2: c and the last starter of s give way to their composite, in the starter's place, unless c is blocked from it or they have none.
@@ -66,9 +69,27 @@ pub(crate) fn compose(s: &mut [u16]) -> usize
     n
 }
 
+// What normalising answers: how many code points the NFC has, or that the buffer might not hold it.
+pub enum Normalised {
+    Done(CharLen),
+    NoRoom,
+}
+
+// NFC of the code points `s`, at the front of `out`. The buffer has to have three places for each, where their NFD is made.
+pub fn normalise(s: &[u16], out: &mut [u16]) -> Normalised
+    ensures { λ r. ⌜ Normalising unicode16 (now (s .entry)) (now (out .entry)) (now (out .exit)) r ⌝ }
+{
+    if out.len() / 3 < s.len() {
+        return Normalised::NoRoom;
+    }
+    let n = unicode::decompose(s, out);
+    nfd::order(&mut out[0..n]);
+    let m = compose(&mut out[0..n]);
+    Normalised::Done(CharLen(m))
+}
+
 // Composes `s`, which is in NFD, and writes it to `out`.
 fn place_composed(s: &mut [u16], out: &mut [u8]) -> TextAnswer
-    requires { ⌜ length (now s) ≤ 65536 ⌝ }
     ensures { λ r. ⌜ textReply r (now (out .exit)) ≡ placed 0 (encode (compose unicode16 (now (s .entry)))) (now (out .entry)) ⌝ }
 {
     let n = compose(s);

@@ -5,6 +5,7 @@ ghost use mathlib.Core.Path.{_≡_};
 ghost use Prim.Native.Nat.{_≤_};
 ghost use lib.ListN.{length};
 ghost use Rattle.ji.specs.Utf8.{encode};
+ghost use Rattle.ji.specs.Written.{Written};
 ghost use Rattle.ji.specs.Reply.{refusalNumber, placed, textReply};
 
 // Why a call is refused.
@@ -40,13 +41,34 @@ pub enum TextAnswer {
 }
 
 // Writes the text `s` to `out`, if there is room for all of it.
-pub(crate) fn place(s: &[u16], out: &mut [u8]) -> TextAnswer
-    requires { ⌜ length (now s) ≤ 65536 ⌝ }
+pub fn place(s: &[u16], out: &mut [u8]) -> TextAnswer
     ensures { λ r. ⌜ textReply r (now (out .exit)) ≡ placed 0 (encode (now (s .entry))) (now (out .entry)) ⌝ }
 {
-    let needed = utf8::encoded_len(s);
-    if out.len() < needed.0 {
+    if utf8::fits(s, out.len()) {
+        return TextAnswer::Done(utf8::encode(s, out));
+    }
+    TextAnswer::Refused(Refusal::NoRoom)
+}
+
+// Copies the bytes `s` to the front of `out`.
+pub(crate) fn copy(s: &[u8], out: &mut [u8])
+    requires { ⌜ length (now s) ≤ length (now out) ⌝ }
+    ensures { λ _. ⌜ Written (now (out .entry)) (now (out .exit)) (length (now (s .entry))) (now (s .entry)) ⌝ }
+{
+    let mut i: usize = 0;
+    while i < s.len() {
+        out[i] = s[i];
+        i += 1;
+    }
+}
+
+// Writes the bytes `s` of a text to `out`, if there is room for all of them.
+pub fn place_bytes(s: &[u8], out: &mut [u8]) -> TextAnswer
+    ensures { λ r. ⌜ textReply r (now (out .exit)) ≡ placed 0 (now (s .entry)) (now (out .entry)) ⌝ }
+{
+    if out.len() < s.len() {
         return TextAnswer::Refused(Refusal::NoRoom);
     }
-    TextAnswer::Done(utf8::encode(s, out))
+    copy(s, out);
+    TextAnswer::Done(ByteLen(s.len()))
 }

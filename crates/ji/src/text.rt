@@ -121,7 +121,7 @@ pub(crate) fn replace_same(s: &mut [u16], pattern: &[u16], by: &[u16])
 }
 
 // Replaces each `a` `b` by `c` `d`.
-pub(crate) fn replace_pair(s: &mut [u16], a: u16, b: u16, c: u16, d: u16)
+pub fn replace_pair(s: &mut [u16], a: u16, b: u16, c: u16, d: u16)
     ensures { λ _. ⌜ now (s .exit) ≡ replaceAll (a ∷ b ∷ []) (c ∷ d ∷ []) (now (s .entry)) ⌝ }
 {
     let pattern = [a, b];

@@ -17,7 +17,7 @@ pub enum Tone {
 }
 
 // Whether it is a tone, and not None.
-pub(crate) fn is_tone(tone: Tone) -> bool
+pub fn is_tone(tone: Tone) -> bool
     ensures { λ r. ⌜ r ≡ isTone tone ⌝ }
 {
     match tone {

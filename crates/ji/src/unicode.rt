@@ -11,7 +11,11 @@ ghost use lib.Seq.{paste};
 ghost use Rattle.ucd.specs.Table.{decomposition};
 ghost use Rattle.ucd.specs.Unicode16.{unicode16};
 ghost use Rattle.ji.specs.Unicode.{toByteLen, spread};
-ghost use Rattle.ji.specs.Reading.{spreadText, Reading};
+ghost use Rattle.ucd.specs.Full.{full};
+ghost use Rattle.ji.specs.Utf8.{decode};
+ghost use Rattle.ji.specs.Written.{Written};
+ghost use Rattle.ji.specs.Reply.{checkPoints, checkWithin, verdictOf};
+ghost use Rattle.ji.specs.Reading.{spreadText, Reading, PointsReading};
 
 // A number of bytes.
 pub struct ByteLen(pub usize);
@@ -20,8 +24,14 @@ pub struct ByteLen(pub usize);
 pub struct CharLen(pub usize);
 
 // What reading a text gives: its code points in the buffer, or why it is refused.
-pub(crate) enum Decoded {
+pub enum Decoded {
     Points(CharLen),
+    Refused(Refusal),
+}
+
+// Whether a text is one of the table: it is, or why it is refused.
+pub enum Verdict {
+    Good,
     Refused(Refusal),
 }
 
@@ -110,6 +120,64 @@ pub(crate) fn decode(s: &[u8], decomposed: bool, out: &mut [u16]) -> Decoded
         }
     }
     Decoded::Points(CharLen(n))
+}
+
+// The code points of `text`, as they are, written to the front of `out`. The buffer has to have three places for every two bytes.
+pub fn points(text: &[u8], out: &mut [u16]) -> Decoded
+    ensures { λ r. ⌜ PointsReading unicode16 (now (text .entry)) (now (out .entry)) (now (out .exit)) r ⌝ }
+{
+    if out.len() / 3 * 2 < text.len() {
+        return Decoded::Refused(Refusal::NoRoom);
+    }
+    decode(text, false, out)
+}
+
+// Whether the bytes `s` are a text of the table, or which of the two refusals they get.
+fn check_points(s: &[u8]) -> Verdict
+    ensures { λ r. ⌜ r ≡ verdictOf (checkPoints unicode16 (decode (now (s .entry)))) ⌝ }
+{
+    let mut i: usize = 0;
+    while i < s.len() {
+        let sequence = utf8::read(s, i);
+        let width = sequence.width;
+        if width == 0 {
+            return Verdict::Refused(Refusal::IllFormed);
+        }
+        let point = sequence.point;
+        if ucd::is_member(point) {
+            i += width;
+        } else {
+            if utf8::well_formed(s, i) {
+                return Verdict::Refused(Refusal::OutsideTable);
+            }
+            return Verdict::Refused(Refusal::IllFormed);
+        }
+    }
+    Verdict::Good
+}
+
+// Whether `text` is a text of the table of at most `limit` bytes.
+pub fn check(text: &[u8], limit: usize) -> Verdict
+    ensures { λ r. ⌜ r ≡ verdictOf (checkWithin unicode16 limit (now (text .entry))) ⌝ }
+{
+    if limit < text.len() {
+        return Verdict::Refused(Refusal::TooLong);
+    }
+    check_points(text)
+}
+
+// The full decomposition of the code points `s`, written to the front of `out`.
+pub(crate) fn decompose(s: &[u16], out: &mut [u16]) -> usize
+    requires { ⌜ 3 * length (now s) ≤ length (now out) ⌝ }
+    ensures { λ r. ⌜ Written (now (out .entry)) (now (out .exit)) r (full unicode16 (now (s .entry))) ⌝ }
+{
+    let mut i: usize = 0;
+    let mut n: usize = 0;
+    while i < s.len() {
+        n = put(spread_point(s[i], true), out, n);
+        i += 1;
+    }
+    n
 }
 
 // How many bytes the first `chars` code points of `s` take.

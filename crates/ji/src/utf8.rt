@@ -3,6 +3,7 @@ use crate::unicode::ByteLen;
 ghost use mathlib.Core.Path.{_≡_};
 ghost use mathlib.Core.Bool.{_&&_};
 ghost use Prim.Native.Nat.{ℕ, _+_, _-_, _≤_, _<_};
+ghost use lib.Dec.{leb};
 ghost use lib.ListN.{length, drop, getD};
 ghost use lib.Seq.{paste};
 ghost use Rattle.ji.specs.Written.{Written};
@@ -244,4 +245,22 @@ pub(crate) fn encoded_len(s: &[u16]) -> ByteLen
         i += 1;
     }
     ByteLen(n)
+}
+
+// Whether the bytes of the code points `s` have room in `room` bytes. It counts down what is left of the room, so that a length that no number
+// holds is refused too.
+pub(crate) fn fits(s: &[u16], room: usize) -> bool
+    ensures { λ r. ⌜ r ≡ leb (length (encode (now (s .entry)))) room ⌝ }
+{
+    let mut left = room;
+    let mut i: usize = 0;
+    while i < s.len() {
+        let size = byte_count(s[i]);
+        if left < size {
+            return false;
+        }
+        left -= size;
+        i += 1;
+    }
+    true
 }

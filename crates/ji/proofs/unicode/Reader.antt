@@ -89,8 +89,33 @@ module _ (t : Table) (s : List ℕ) where
         ∙ ap (λ (b : Bool). pickChecked b (good u) (bad OutsideTable)) (r .inside)
 
     -- nothing more is accepted: what is accepted of the text is what was taken
-    taken-all : accepted t (drop i s) ≡ [] → accepted t s ≡ u
+    pub taken-all : accepted t (drop i s) ≡ [] → accepted t s ≡ u
     taken-all e = r .stops ∙ ap (λ (l : List ℕ). u ++ l) e ∙ append-nil u
+
+    -- what is left is ill formed
+    taken-none : decode (drop i s) ≡ none → checkPoints t (decode s) ≡ bad IllFormed
+    taken-none o = ap (checkPoints t) (r .decoded ∙ ap (onto u) o)
+
+    pub taken-ill : i < length s → widthAt (drop i s) ≡ 0 → checkPoints t (decode s) ≡ bad IllFormed
+    taken-ill h e = taken-none (decode-at-ill s i h e)
+
+    -- a code point outside the table: the rest decides between the two refusals
+    module _ (h : i < length s) (k : 0 < widthAt (drop i s)) (m : member t (pointAt (drop i s)) ≡ false) where
+      found : (o : Option (List ℕ)) → decode (drop (i + widthAt (drop i s)) s) ≡ o → isDecoded (more (pointAt (drop i s)) o) ≡ true → checkPoints t (decode s) ≡ bad OutsideTable
+      found none e f = absurd (false-true f)
+      found (some v) e f =
+          ap (checkPoints t) (r .decoded ∙ ap (onto u) (decode-at s i h k ∙ ap (more (pointAt (drop i s))) e))
+          ∙ ap (λ (b : Bool). pickChecked b (good (u ++ (pointAt (drop i s) ∷ v))) (bad OutsideTable)) (members-not t u (pointAt (drop i s)) v (r .inside) m)
+
+      pub taken-outside : isDecoded (decode (drop i s)) ≡ true → checkPoints t (decode s) ≡ bad OutsideTable
+      taken-outside f = found (decode (drop (i + widthAt (drop i s)) s)) refl (sym (ap isDecoded (decode-at s i h k)) ∙ f)
+
+      undecoded : (o : Option (List ℕ)) → isDecoded o ≡ false → o ≡ none
+      undecoded none f = refl
+      undecoded (some v) f = absurd (false-true (sym f))
+
+      pub taken-outside-ill : isDecoded (decode (drop i s)) ≡ false → checkPoints t (decode s) ≡ bad IllFormed
+      taken-outside-ill f = taken-none (undecoded (decode (drop i s)) f)
 
     -- one more code point
     pub taken-more : i < length s → 0 < widthAt (drop i s) → member t (pointAt (drop i s)) ≡ true → Taken t s (u ++ (pointAt (drop i s) ∷ [])) (i + widthAt (drop i s))
@@ -117,36 +142,20 @@ module _ (t : Table) (d : Bool) (s before : List ℕ) where
     left : accepted t (drop i s) ≡ [] → Written before after (length (spread t d (accepted t s))) (spread t d (accepted t s))
     left e = rw (taken-all t s (r .taken) i (r .text) e, r .written .size) (r .written)
 
-    none-left : accepted t (drop i s) ≡ [] → decode (drop i s) ≡ none → Reading t d s before after (Refused IllFormed)
-    none-left e o = (ap (checkPoints t) (r .text .decoded ∙ ap (onto (r .taken)) o), left e)
-
     pub read-end : length s ≤ i → Reading t d s before after (Points (record { 0 = n }))
     read-end h = (r .taken, taken-end t s (r .taken) i (r .text) h, r .written)
 
     module _ (h : i < length s) where
       pub read-ill : widthAt (drop i s) ≡ 0 → Reading t d s before after (Refused IllFormed)
-      read-ill e = none-left (accepted-ill t s i h e) (decode-at-ill s i h e)
+      read-ill e = (taken-ill t s (r .taken) i (r .text) h e, left (accepted-ill t s i h e))
 
       module _ (k : 0 < widthAt (drop i s)) where
-        -- a code point outside the table: the rest decides between the two refusals
         module _ (m : member t (pointAt (drop i s)) ≡ false) where
-          found : (o : Option (List ℕ)) → decode (drop (i + widthAt (drop i s)) s) ≡ o → isDecoded (more (pointAt (drop i s)) o) ≡ true → Reading t d s before after (Refused OutsideTable)
-          found none e f = absurd (false-true f)
-          found (some u) e f = (
-            ap (checkPoints t) (r .text .decoded ∙ ap (onto (r .taken)) (decode-at s i h k ∙ ap (more (pointAt (drop i s))) e))
-                ∙ ap (λ (b : Bool). pickChecked b (good (r .taken ++ (pointAt (drop i s) ∷ u))) (bad OutsideTable)) (members-not t (r .taken) (pointAt (drop i s)) u (r .text .inside) m),
-            left (accepted-outside t s i h k m),
-          )
-
           pub read-outside : isDecoded (decode (drop i s)) ≡ true → Reading t d s before after (Refused OutsideTable)
-          read-outside f = found (decode (drop (i + widthAt (drop i s)) s)) refl (sym (ap isDecoded (decode-at s i h k)) ∙ f)
-
-          undecoded : (o : Option (List ℕ)) → isDecoded o ≡ false → o ≡ none
-          undecoded none f = refl
-          undecoded (some u) f = absurd (false-true (sym f))
+          read-outside f = (taken-outside t s (r .taken) i (r .text) h k m f, left (accepted-outside t s i h k m))
 
           pub read-outside-ill : isDecoded (decode (drop i s)) ≡ false → Reading t d s before after (Refused IllFormed)
-          read-outside-ill f = none-left (accepted-outside t s i h k m) (undecoded (decode (drop i s)) f)
+          read-outside-ill f = (taken-outside-ill t s (r .taken) i (r .text) h k m f, left (accepted-outside t s i h k m))
 
         -- a code point of the table is taken
         module _ (m : member t (pointAt (drop i s)) ≡ true) where

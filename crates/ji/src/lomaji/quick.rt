@@ -242,15 +242,3 @@ pub(crate) fn walk(s: &[u8], out: &mut [u8]) -> Outcome
     }
     Outcome::GivenUp
 }
-
-// Copies the bytes `s` to the front of `out`.
-pub(crate) fn copy(s: &[u8], out: &mut [u8])
-    requires { ⌜ length (now s) ≤ length (now out) ⌝ }
-    ensures { λ _. ⌜ Written (now (out .entry)) (now (out .exit)) (length (now (s .entry))) (now (s .entry)) ⌝ }
-{
-    let mut i: usize = 0;
-    while i < s.len() {
-        out[i] = s[i];
-        i += 1;
-    }
-}

@@ -2,6 +2,7 @@
 use crate::lomaji::quick;
 use crate::lomaji::quick::Outcome;
 use crate::nfd;
+use crate::reply;
 use crate::reply::Refusal;
 use crate::tone::Tone;
 use crate::tone::is_tone;
@@ -232,7 +233,7 @@ fn place_bytes(s: &[u8], last: Tone, out: &mut [u8]) -> Strip
     if out.len() < s.len() {
         return Strip::Refused(Refusal::NoRoom);
     }
-    quick::copy(s, out);
+    reply::copy(s, out);
     Strip::Done(StripResult {
         len: ByteLen(s.len()),
         tone: tone_of(last, s),

@@ -15,7 +15,7 @@ ghost use Rattle.ucd.specs.Unicode16.{unicode16};
 ghost use Rattle.ji.specs.Lomaji.ToneLetter.{patterns, matches, toneLetter, placeOf, isSome, letterAt, toneLetterCall, toneLetterReply, hasLetterReply, hasToneLetterCall, hasToneLetterReply};
 
 // Where a tone letter stands, in code points.
-pub(crate) enum Place {
+pub enum Place {
     At(CharLen),
     Nowhere,
 }
@@ -140,7 +140,7 @@ fn letter_of(k: usize) -> usize
 }
 
 // The place of the tone letter: the first pattern that occurs, at its first place. Finding it ends the search over both.
-pub(crate) fn tone_position(s: &[u16]) -> Place
+pub fn tone_position(s: &[u16]) -> Place
     ensures { λ r. ⌜ placeOf r ≡ toneLetter (now (s .entry)) ⌝ }
 {
     let mut place = Place::Nowhere;

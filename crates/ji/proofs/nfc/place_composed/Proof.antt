@@ -30,7 +30,7 @@ part-place-end : tie.Need-part-place-end
 part-place-end c = let w = composed (c .before .before .before) in omega (arith, w .fits, written-length w)
 
 place-requires : tie.Need-place-requires
-place-requires c κs = let w = composed (c .before .before .before .before .before) in rw (front w, w .size) (let h = c .before .before .before .before .before .before .before .before .before .pre in omega (arith, w .fits))
+place-requires c κs = search needs
 
 same-length : tie.Need-same-length
 same-length c = search needs

@@ -37,10 +37,7 @@ part-points-end c =
     omega (arith, w .fits, written-length w)
 
 place-composed-requires : tie.Need-place-composed-requires
-place-composed-requires c κs =
-    let l = c .before .before .before in
-    let w = nfd-told unicode16 _ _ _ (l .len .given .1) (l .before .before .before .read-nfd .ensures) .2 in
-    rw (front w, w .size) (omega (arith, w .fits))
+place-composed-requires c κs = search needs
 
 returns : tie.Need-returns
 returns c =

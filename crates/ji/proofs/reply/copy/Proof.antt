@@ -7,8 +7,8 @@ use lib.Seq.{drop-cons}
 use Rattle.ji.proofs.Writing.{written-length}
 use Rattle.ji.proofs.Underway.{Underway, underway-start, underway-one, underway-end}
 use native.Mathlib.Omega.{arith}
-use Rattle.ji.proofs.lomaji.quick.copy.Statement.{statement}
-use Rattle.ji.proofs.lomaji.quick.copy.Tie as tie
+use Rattle.ji.proofs.reply.copy.Statement.{statement}
+use Rattle.ji.proofs.reply.copy.Tie as tie
 
 abbrev Inv-loop : tie.InvT-loop
 Inv-loop s out₀ i₀ out i = Underway (λ (l : List ℕ). l) s out₀ out i i

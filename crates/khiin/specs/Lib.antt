@@ -1,0 +1,4 @@
+pub mod Syllable
+pub mod KeySequence
+pub mod Listing
+pub mod Converter
