@@ -2,3 +2,4 @@ pub mod Laws
 pub mod Decoding
 pub mod Encoding
 pub mod RoundTrip
+pub mod OneToOne

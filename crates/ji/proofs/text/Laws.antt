@@ -1,5 +1,5 @@
 -- Laws of beginnings and of replace-all, each over any pattern p and replacement r.
-use mathlib.Core.Path.{_≡_, refl, sym, ap, _∙_}
+use mathlib.Core.Path.{_≡_, refl, sym, ap, ap₂, _∙_}
 use mathlib.Core.Bool.{Bool, true, false, _&&_}
 use mathlib.Core.List.{List, [], _∷_, _++_, append-assoc}
 use Prim.Native.Nat.{ℕ, zero, suc, _+_, _*_, _≤_, _<_, suc-le-suc}
@@ -7,12 +7,12 @@ use native.Mathlib.Nat.{suc-sub-suc, sub-zero, mul-add, mul-suc}
 use native.Mathlib.Numerals.{add-one}
 use native.Mathlib.Decide.{ℕ-discrete}
 use native.Mathlib.Omega.{arith}
-use borrow.Author.Tests.{eq-eqb, ne-eqb}
+use borrow.Author.Tests.{eqb-true, eq-eqb, ne-eqb}
 use lib.Dec.{eqb}
 use lib.ListN.{length, drop, getD, drop-of-length-le, length-append, length-drop}
 use lib.Seq.{drop-cons, drop-drop}
 use Rattle.ji.specs.Text.{begins, replaceFrom, replaceAll}
-use Rattle.ji.proofs.Bools.{false-true, either, and-false, and-true, and-right, text-yes, text-no}
+use Rattle.ji.proofs.Bools.{false-true, either, and-false, and-true, and-yes, and-left, and-right, text-yes, text-no}
 
 -- a text from i on begins with its element at i
 pub drop-next : (s : List ℕ) (i : ℕ) → i < length s → drop i s ≡ getD s i 0 ∷ drop (i + 1) s
@@ -41,6 +41,19 @@ begins-step p s k i hp hs = rw (drop-next p k hp, drop-next s i hs)
 pub begins-end : (p s : List ℕ) (k : ℕ) → length p ≤ k → begins (drop k p) s ≡ true
 unfolding begins
 begins-end p s k h = rw (drop-of-length-le p h)
+
+-- a text that begins with p is p and the rest
+pub begins-split : (p s : List ℕ) → begins p s ≡ true → s ≡ p ++ drop (length p) s
+unfolding begins
+begins-split [] s e = refl
+begins-split (a ∷ p) [] e = absurd (false-true e)
+begins-split (a ∷ p) (x ∷ s) e =
+    ap₂ _∷_ (eqb-true x a (and-left (eqb x a) (begins p s) e)) (begins-split p s (and-right (eqb x a) (begins p s) e))
+
+pub begins-own : (p s : List ℕ) → begins p (p ++ s) ≡ true
+unfolding begins
+begins-own [] s = refl
+begins-own (a ∷ p) s = and-yes (eqb a a) (begins p (p ++ s)) (eq-eqb a a refl) ∙ begins-own p s
 
 -- a pattern of one code point
 pub begins-point : (a x : ℕ) (s : List ℕ) → begins (a ∷ []) (x ∷ s) ≡ eqb x a

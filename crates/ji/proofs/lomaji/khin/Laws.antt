@@ -7,10 +7,11 @@ use native.Mathlib.Omega.{arith}
 use lib.Dec.{eqb}
 use lib.ListN.{length, take, drop, getD, length-drop}
 use lib.Seq.{take-all}
-use Rattle.ji.specs.Text.{begins}
+use Rattle.ji.specs.Text.{points, begins}
 use Rattle.ji.specs.Utf8.{bytesOf, encode, bytes}
-use Rattle.ji.specs.Lomaji.Khin.{pickKhin, afterKhin, khinOf}
+use Rattle.ji.specs.Lomaji.Khin.{pickKhin, afterMark, afterKhin, khinOf, withoutKhin, khinIn}
 use Rattle.ji.specs.declared.lomaji.khin.Khin.the-variants.{No, Yes}
+use Rattle.ji.proofs.utf8.OneToOne.{begins-bytes, drop-bytes}
 use Rattle.ji.proofs.Bools.{false-true, either, and-true, and-false, and-right, or-yes, or-no, text-yes, text-no}
 
 -- ── a text that begins with two bytes
@@ -70,3 +71,19 @@ khin-no s e = ap (λ (b : Bool). pickKhin b Yes No) e
 pub after-khin-length : (s : List ℕ) → length (afterKhin s) ≤ length s
 after-khin-length s =
     either (marked s) (λ e. rw (after-mark s e) (simp length-drop (omega arith))) (λ e. rw (after-none s e) (omega arith))
+
+-- ── the bytes of a text, and its code points
+after-bytes : (hyphens dot s : List ℕ) → afterMark (encode hyphens) (encode dot) (encode s) ≡ encode (afterMark hyphens dot s)
+after-bytes hyphens dot s =
+    rw (begins-bytes hyphens s, begins-bytes dot s)
+    (either (begins hyphens s)
+    (λ e. rw e (drop-bytes hyphens s e))
+    (λ e. rw e (either (begins dot s) (λ f. rw f (drop-bytes dot s f)) (λ f. rw f refl))))
+
+pub after-points : (s : List ℕ) → afterKhin (encode s) ≡ encode (withoutKhin s)
+unfolding afterKhin withoutKhin
+after-points s = after-bytes (points "--") (points "·") s
+
+pub khin-points : (s : List ℕ) → khinOf (encode s) ≡ khinIn s
+unfolding khinOf khinIn
+khin-points s = rw (begins-bytes (points "--") s, begins-bytes (points "·") s) refl

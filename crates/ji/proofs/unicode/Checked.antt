@@ -1,0 +1,60 @@
+-- What a check of a text says of it, and that the bytes of any text of the table pass.
+use mathlib.Core.Path.{_≡_, refl, sym, ap, _∙_}
+use mathlib.Core.Bool.{Bool, true, false}
+use mathlib.Core.List.{List}
+use mathlib.Core.Option.{Option, none, some}
+use Prim.Native.Nat.{ℕ, _≤_, _<_}
+use native.Mathlib.Omega.{arith}
+use borrow.Author.Tests.{leb-true}
+use lib.Dec.{T, leb}
+use lib.ListN.{length}
+use Rattle.ucd.specs.Table.{Table}
+use Rattle.ucd.specs.Unicode16.{unicode16}
+use Rattle.ucd.proofs.Tests.{true-passes}
+use Rattle.ucd.proofs.Unicode16.{member-below}
+use Rattle.ji.specs.Utf8.{decode, encode}
+use Rattle.ji.specs.Unicode.{members}
+use Rattle.ji.specs.Reply.{Checked, good, bad, pickChecked, checkPoints, checkWithin}
+use Rattle.ji.specs.declared.reply.Refusal.the-variants.{TooLong, OutsideTable}
+use Rattle.ji.proofs.Bools.{either}
+use Rattle.ji.proofs.Replies.{within-points}
+use Rattle.ji.proofs.unicode.Laws.{members-all}
+use Rattle.ji.proofs.utf8.RoundTrip.{decode-encode, encode-decode}
+
+-- the bytes of a text of the table are read back
+pub read-back : (s : List ℕ) → members unicode16 s ≡ true → decode (encode s) ≡ some s
+read-back s h = decode-encode s (members-all unicode16 (λ x. x < 0xD800) (λ c m. member-below c (true-passes _ m)) s h)
+
+-- and pass the check
+pub check-passes : (limit : ℕ) (s : List ℕ) → members unicode16 s ≡ true → length (encode s) ≤ limit → checkWithin unicode16 limit (encode s) ≡ good s
+check-passes limit s h short =
+    within-points unicode16 (encode s) limit short
+    ∙ ap (checkPoints unicode16) (read-back s h)
+    ∙ ap (λ (b : Bool). pickChecked b (good s) (bad OutsideTable)) h
+
+-- what was found good is short enough, and the bytes of a text of the table
+pub record Passed (t : Table) (limit : ℕ) (bytes s : List ℕ) : Type 0 where
+  pub short : length bytes ≤ limit
+  pub inside : members t s ≡ true
+  pub written : encode s ≡ bytes
+
+module _ (t : Table) (limit : ℕ) (bytes s : List ℕ) where
+  by-members : (u : List ℕ) (b : Bool) → members t u ≡ b → pickChecked b (good u) (bad OutsideTable) ≡ good s → (u ≡ s) × (members t s ≡ true)
+  by-members u true m e = let f : u ≡ s = cc in (f, ap (members t) (sym f) ∙ m)
+  by-members u false m e = absurd (let z : _≡_ {A = ℕ} 0 1 = cc in omega arith)
+
+  by-points : (o : Option (List ℕ)) → decode bytes ≡ o → checkPoints t o ≡ good s → (members t s ≡ true) × (encode s ≡ bytes)
+  by-points none d e = absurd (let z : _≡_ {A = ℕ} 0 1 = cc in omega arith)
+  by-points (some u) d e =
+      let f = by-members u (members t u) refl e in
+      (f .1, encode-decode bytes s (d ∙ ap some (f .0)))
+
+  by-length : (b : Bool) → leb (length bytes) limit ≡ b → pickChecked b (checkPoints t (decode bytes)) (bad TooLong) ≡ good s → Passed t limit bytes s
+  by-length true l e =
+      let f = by-points (decode bytes) refl e in
+      record { short = leb-true (length bytes) limit l; inside = f .0; written = f .1 }
+  by-length false l e = absurd (let z : _≡_ {A = ℕ} 0 1 = cc in omega arith)
+
+  pub check-passed : checkWithin t limit bytes ≡ good s → Passed t limit bytes s
+  unfolding checkWithin
+  check-passed e = by-length (leb (length bytes) limit) refl e
