@@ -33,7 +33,7 @@ bytes-many c h = by-size (decLe c 0x7FF) (decLe c 0xFFFF)
     by-size (no k) (yes l) = omega (arith, ap length (bytes-three c (omega arith) l))
     by-size (no k) (no l) = omega (arith, ap length (bytes-four c (omega arith)))
 
-spread-bytes : (d : Bool) (c : ℕ) → 2 * length (spread unicode16 d (c ∷ [])) ≤ 3 * length (bytesOf c)
+pub spread-bytes : (d : Bool) (c : ℕ) → 2 * length (spread unicode16 d (c ∷ [])) ≤ 3 * length (bytesOf c)
 spread-bytes d c = by-size (decLe c 0x7F)
   where
     by-size : Dec (c ≤ 0x7F) → 2 * length (spread unicode16 d (c ∷ [])) ≤ 3 * length (bytesOf c)
