@@ -1,3 +1,4 @@
 pub mod Laws
 pub mod Reader
 pub mod Checked
+pub mod Bytes

@@ -1,4 +1,5 @@
 pub mod Syllable
+pub mod Records
 pub mod KeySequence
 pub mod Listing
 pub mod Converter

@@ -173,7 +173,7 @@ khinKey No = []
 khinKey Yes = points "0"
 
 abbrev pub toneDigit : Tone → List ℕ
-toneDigit tone = take 1 (drop (toneNumber tone) (points "0123456789"))
+toneDigit tone = pickText (isTone tone) ((point "0" + toneNumber tone) ∷ []) []
 
 -- the candidate that writes 0358 as `vowel`; s is the stripped text behind khin
 abbrev pub candidate : Tone → Khin → List ℕ → List ℕ → Syllable
@@ -260,8 +260,11 @@ candidateAt count [] position buffer = refused Position buffer
 candidateAt count (s ∷ ss) zero buffer = placedRecord count s buffer
 candidateAt count (s ∷ ss) (suc position) buffer = candidateAt count ss position buffer
 
+abbrev pub candidateIn : List Syllable → ℕ → List ℕ → Reply
+candidateIn ss position buffer = candidateAt (length ss) ss position buffer
+
 abbrev pub candidateOf : Table → Checked → ℕ → List ℕ → Reply
-candidateOf t (good s) position buffer = candidateAt (length (fromComposed t s)) (fromComposed t s) position buffer
+candidateOf t (good s) position buffer = candidateIn (fromComposed t s) position buffer
 candidateOf t (bad why) position buffer = refused why buffer
 
 unfoldable pub candidateCall : Table → List ℕ → ℕ → List ℕ → Reply

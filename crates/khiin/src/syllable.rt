@@ -1,4 +1,7 @@
 // Syllables.
+pub mod from_composed;
+pub mod from_raw;
+
 use ji::lomaji::khin::Khin;
 use ji::reply::Refusal;
 use ji::tone::Tone;
