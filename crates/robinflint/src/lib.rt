@@ -9,11 +9,14 @@ use ji::lomaji::strip::Strip;
 use ji::lomaji::tone_letter;
 use ji::lomaji::tone_letter::ToneLetter;
 use ji::tone;
+use khiin::syllable::from_composed;
+use khiin::syllable::from_raw;
 ghost use mathlib.Core.Path.{_≡_};
 ghost use mathlib.Core.List.{[]};
 ghost use Rattle.ji.specs.Unicode.{unicode16};
 ghost use Rattle.ji.specs.Lomaji.Strip.{stripCall};
 ghost use Rattle.ji.specs.Lomaji.ToneLetter.{toneLetterCall};
+ghost use Rattle.khiin.specs.Syllable.{fromRawCall, candidateCall};
 ghost use Rattle.robinflint.specs.Reply.{replyOf};
 
 // The text without its tone marks, in NFD, and its tone. Refuses with 2, 3, 4, 7.
@@ -49,4 +52,20 @@ pub extern "C" fn rf_tone_letter(text: &[u8]) -> Reply
         ToneLetter::Nothing => found(0, 0),
         ToneLetter::At(position) => found(1, position.0 as u64),
     }
+}
+
+// The record of raw keys. Refuses with 2, 4, 7.
+#[no_mangle]
+pub extern "C" fn rf_from_raw(keys: &[u8], out: &mut [u8]) -> Reply
+    ensures { λ r. ⌜ replyOf r (now (out .exit)) ≡ fromRawCall (now (keys .entry)) (now (out .entry)) ⌝ }
+{
+    reply::syllable(from_raw::from_raw(keys, out))
+}
+
+// The record at the position of those that a composed syllable may be typed as, and how many there are. Refuses with 2, 3, 4, 6, 7.
+#[no_mangle]
+pub extern "C" fn rf_candidate(text: &[u8], position: u64, out: &mut [u8]) -> Reply
+    ensures { λ r. ⌜ replyOf r (now (out .exit)) ≡ candidateCall unicode16 (now (text .entry)) position (now (out .entry)) ⌝ }
+{
+    reply::syllable(from_composed::from_composed(text, position, out))
 }

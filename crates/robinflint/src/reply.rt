@@ -1,11 +1,15 @@
 // What a call replies to C.
+use ji::lomaji::khin;
 use ji::reply;
 use ji::reply::Refusal;
 use ji::reply::TextAnswer;
+use ji::tone;
+use khiin::syllable::Recorded;
 ghost use mathlib.Core.Path.{_≡_};
 ghost use mathlib.Core.List.{List, []};
 ghost use Prim.Native.Nat.{ℕ};
 ghost use Rattle.ji.specs.Reply.{refused, found, textReply};
+ghost use Rattle.khiin.specs.Syllable.{recordReply};
 ghost use Rattle.robinflint.specs.Reply.{replyOf};
 
 // 0 or the refusal's number, and the numbers that a call gives, each 0 where it gives none.
@@ -65,5 +69,29 @@ pub fn text(answer: TextAnswer) -> Reply
             khin: 0,
             position: 0,
         },
+    }
+}
+
+// A syllable record, with its raw input in the lent buffer.
+pub fn syllable(answer: Recorded) -> Reply
+    ensures { λ r. ⌜ ((buffer : List ℕ) → replyOf r buffer ≡ recordReply answer buffer) ⌝ }
+{
+    match answer {
+        Recorded::Refused(why) => refuse(why),
+        Recorded::Done(result) => {
+            let len = result.len;
+            let body = result.body;
+            let tone = result.tone;
+            let khin = result.khin;
+            Reply {
+                code: 0,
+                length: len.0 as u64,
+                count: result.count,
+                body: body.0 as u64,
+                tone: tone::number(tone) as u64,
+                khin: khin::number(khin),
+                position: 0,
+            }
+        }
     }
 }
