@@ -5,10 +5,14 @@ use Prim.Native.Nat.{ℕ, zero, suc, _-_}
 use lib.Dec.{eqb}
 use lib.ListN.{length, take}
 pub use Rattle.ucd.specs.Table.{Table, member, pickText}
-use Rattle.ucd.specs.Full.{full}
+unfoldable pub use Rattle.ucd.specs.Full.{pass, passes, full}
 -- what the crates above need of the table: they know it through this crate alone
-pub use Rattle.ucd.specs.Table.{All, pickNumber, same, listed}
-pub use Rattle.ucd.specs.Unicode16.{unicode16}
+pub use Rattle.ucd.specs.Table.{All, pickNumber}
+unfoldable pub use Rattle.ucd.specs.Table.{same, listed}
+unfoldable pub use Rattle.ucd.specs.Unicode16.{unicode16}
+-- and what they open to compute examples
+unfoldable pub use Rattle.ucd.specs.Table.{mappingIn, classIn, decomposition, combiningClass, isComposite, compositeIn, composite}
+unfoldable pub use Rattle.ucd.specs.Unicode16.{mappings16, classes16, exclusions16}
 use Rattle.ji.specs.Utf8.{widthAt, pointAt, encode}
 
 -- `to_byte_len`: how many bytes the first n code points of a text take
