@@ -1,4 +1,5 @@
 // The functions that C and Rust call. Each takes apart the answer of a library function and lays its numbers out for C.
+pub mod arguments;
 pub mod reply;
 
 use crate::reply::Reply;

@@ -9,8 +9,7 @@ use Rattle.ji.specs.Lomaji.Keys.{keys}
 use Rattle.ji.specs.declared.reply.Refusal.the-variants.{Argument}
 use Rattle.ji.specs.declared.lomaji.keys.Form.{Form}
 use Rattle.ji.specs.declared.lomaji.keys.Form.the-variants.{Plain, Oo}
-use Rattle.ji.specs.declared.lomaji.keys.Kind.{Kind}
-use Rattle.ji.specs.declared.lomaji.keys.Kind.the-variants.{Detoned, Numeric, Telex}
+use Rattle.robinflint.specs.Arguments.{kindOf}
 
 -- 0 plain, 1 `_oo`
 abbrev pub pickForm : Bool → Form → Form → Form
@@ -19,14 +18,6 @@ pickForm false a b = b
 
 abbrev pub formOf : ℕ → Form
 formOf n = pickForm (eqb n 0) Plain Oo
-
--- 0 detoned, 1 numeric, 2 telex
-abbrev pub pickKind : Bool → Kind → Kind → Kind
-pickKind true a b = a
-pickKind false a b = b
-
-abbrev pub kindOf : ℕ → Kind
-kindOf n = pickKind (eqb n 0) Detoned (pickKind (eqb n 1) Numeric Telex)
 
 abbrev pub keysCall : ℕ → ℕ → List ℕ → List ℕ → Reply
 keysCall form kind text buffer =

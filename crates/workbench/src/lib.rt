@@ -1,13 +1,13 @@
 // Parts of the libraries that are no C function of their own, exported to be compared with the Rust and timed. Not shipped.
 use ji::lomaji::keys;
 use ji::lomaji::keys::Form;
-use ji::lomaji::keys::Kind;
 use ji::lomaji::khin;
 use ji::lomaji::tone_letter;
 use ji::lomaji::tone_letter::HasToneLetter;
 use ji::nfc;
 use ji::nfd;
 use ji::reply::Refusal;
+use robinflint::arguments::kind_of;
 use robinflint::reply;
 use robinflint::reply::Reply;
 ghost use mathlib.Core.Path.{_≡_};
@@ -19,7 +19,7 @@ ghost use Rattle.ji.specs.Nfc.{nfc};
 ghost use Rattle.ji.specs.Lomaji.ToneLetter.{hasToneLetterCall};
 ghost use Rattle.robinflint.specs.Reply.{replyOf};
 ghost use Rattle.workbench.specs.Khin.{khinCall};
-ghost use Rattle.workbench.specs.Keys.{formOf, kindOf, keysCall};
+ghost use Rattle.workbench.specs.Keys.{formOf, keysCall};
 
 // NFD of the text. Refuses with 2, 3, 4, 7.
 #[no_mangle]
@@ -87,16 +87,4 @@ fn form_of(number: u64) -> Form
         return Form::Plain;
     }
     Form::Oo
-}
-
-fn kind_of(number: u64) -> Kind
-    ensures { λ r. ⌜ r ≡ kindOf number ⌝ }
-{
-    if number == 0 {
-        return Kind::Detoned;
-    }
-    if number == 1 {
-        return Kind::Numeric;
-    }
-    Kind::Telex
 }

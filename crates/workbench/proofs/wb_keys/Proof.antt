@@ -9,7 +9,8 @@ use Rattle.ji.specs.Reply.{refused, pickReply, textCall}
 use Rattle.ji.specs.Lomaji.Keys.{keys}
 use Rattle.ji.specs.declared.reply.Refusal.the-variants.{Argument}
 use Rattle.ji.proofs.Bools.{and-yes, and-no}
-use Rattle.workbench.specs.Keys.{formOf, kindOf, keysCall}
+use Rattle.robinflint.specs.Arguments.{kindOf}
+use Rattle.workbench.specs.Keys.{formOf, keysCall}
 use borrow.Author.Needs.{needs}
 use Rattle.workbench.proofs.wb_keys.Statement.{statement}
 use Rattle.workbench.proofs.wb_keys.Tie as tie
