@@ -3,7 +3,7 @@
 #
 #   run.sh SOURCES COMMAND [ARGUMENTS]
 #
-# SOURCES is the folder of the unchanged Rust sources (it holds ji/src).
+# SOURCES is the folder of the unchanged Rust sources (it holds ji/src and khiin/src).
 # COMMAND is compare, vectors, normalization, replay or speed, or test for the
 # comparison's own tests. From the environment:
 #   CARGO_TARGET_DIR  where to build; else target/compare of the repository

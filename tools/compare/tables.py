@@ -84,6 +84,21 @@ def joins(classes, splits):
     return pairs
 
 
+def marked(pairs):
+    """For each tone and ASCII byte: the byte with the tone's mark in NFC, and the number of its bytes."""
+    marks = {tone: mark for mark, tone in TONES.items()}
+    numbers = []
+    for tone in range(10):
+        for letter in range(0x80):
+            points = [letter]
+            if tone in marks:
+                composite = pairs.get((letter, marks[tone]))
+                points = [composite] if composite else [letter, marks[tone]]
+            data = encoded(points)
+            numbers.append(int.from_bytes(data.ljust(3, b"\0") + bytes([len(data)]), "little"))
+    return numbers
+
+
 def show(name, kind, numbers, per_line, form):
     print(f"pub static {name}: [{kind}; {len(numbers)}] = [")
     for i in range(0, len(numbers), per_line):
@@ -132,6 +147,9 @@ def main():
     for (a, b), composite in pairs.items():
         cells[column[b] * width + rank[a]] = composite
     show("JOIN", "u16", cells, 14, "0x{:x}")
+    print("/// By tone, then by ASCII byte: the byte with the tone's mark in NFC, as up to three bytes, then")
+    print("/// their number.")
+    show("MARKED", "u32", marked(pairs), 8, "0x{:x}")
 
 
 main()

@@ -24,6 +24,7 @@ impl Reply {
     }
 }
 
+/// A call with its numbers.
 #[derive(Clone, Copy, Debug, PartialEq, Eq)]
 pub enum Call {
     Strip,
@@ -33,9 +34,30 @@ pub enum Call {
     StripKhin,
     HasToneLetter,
     Keys { form: u64, kind: u64 },
+    FromRaw,
+    Compose { tone: u64, khin: u64 },
+    Candidate { position: u64 },
+    Keying { kind: u64, position: u64 },
+    Telex { key: u64, mode: u64 },
+    Listing { from: u64 },
 }
 
-pub const NAMES: [&str; 7] = ["strip", "tone_letter", "nfd", "nfc", "strip_khin", "has_tone_letter", "keys"];
+/// The names of the calls, by their numbers.
+pub const NAMES: [&str; 13] = [
+    "strip",
+    "tone_letter",
+    "nfd",
+    "nfc",
+    "strip_khin",
+    "has_tone_letter",
+    "keys",
+    "from_raw",
+    "compose",
+    "candidate",
+    "keying",
+    "telex",
+    "listing",
+];
 
 impl Call {
     /// The call's number in a record and its place in a table.
@@ -48,30 +70,37 @@ impl Call {
             Call::StripKhin => 4,
             Call::HasToneLetter => 5,
             Call::Keys { .. } => 6,
+            Call::FromRaw => 7,
+            Call::Compose { .. } => 8,
+            Call::Candidate { .. } => 9,
+            Call::Keying { .. } => 10,
+            Call::Telex { .. } => 11,
+            Call::Listing { .. } => 12,
         }
-    }
-
-    pub fn from_numbers(number: u8, form: u8, kind: u8) -> Option<Call> {
-        Some(match number {
-            0 => Call::Strip,
-            1 => Call::ToneLetter,
-            2 => Call::Nfd,
-            3 => Call::Nfc,
-            4 => Call::StripKhin,
-            5 => Call::HasToneLetter,
-            6 => Call::Keys { form: form as u64, kind: kind as u64 },
-            _ => return None,
-        })
     }
 
     /// Whether the call writes to a lent buffer.
     pub fn writes(self) -> bool {
-        matches!(self, Call::Strip | Call::Nfd | Call::Nfc | Call::Keys { .. })
+        !matches!(self, Call::ToneLetter | Call::StripKhin | Call::HasToneLetter)
     }
+
+    /// The call of one text.
+    pub fn of(self, text: &[u8]) -> Question<'_> {
+        Question { call: self, text, second: &[] }
+    }
+}
+
+/// A call and the bytes that it is given. `second` is the body that compose
+/// takes behind the raw input, or the seven tone keys of telex.
+#[derive(Clone, Copy, Debug)]
+pub struct Question<'a> {
+    pub call: Call,
+    pub text: &'a [u8],
+    pub second: &'a [u8],
 }
 
 /// One side of the comparison.
 pub trait Subject {
     fn name(&self) -> &'static str;
-    fn call(&self, call: Call, text: &[u8], out: &mut [u8]) -> Reply;
+    fn call(&self, question: Question, out: &mut [u8]) -> Reply;
 }

@@ -1,11 +1,13 @@
 //! Both sides on the same bytes, and a table of what came out.
 
-use crate::call::{Call, Reply, Subject, NAMES};
+mod of_ji;
+mod of_khiin;
+
+use crate::call::{Call, Question, Reply, Subject, NAMES};
 use crate::digest::Digest;
-use crate::inputs::{self, Maker, Style, STYLES};
 use crate::oracle::{self, Answer};
 use crate::rules;
-use crate::slab::Slab;
+use crate::slab::{Seen, Slab};
 use crate::tuned;
 
 pub const SEED: u64 = 20_260_101;
@@ -13,7 +15,7 @@ pub const SEED: u64 = 20_260_101;
 /// How many differences of one call are printed; the table counts them all.
 const SHOWN: u64 = 1000;
 
-/// Sets of calls, by the calls' numbers.
+/// Sets of the calls of ji, by the calls' numbers.
 #[derive(Clone, Copy)]
 pub struct Calls(u8);
 
@@ -33,31 +35,44 @@ impl Calls {
     }
 }
 
-/// The hand-tuned version has three of the calls.
+/// The hand-tuned version has most of the calls.
 struct Tuned;
+
+impl Tuned {
+    fn has(number: usize) -> bool {
+        !matches!(NAMES[number], "tone_letter" | "strip_khin" | "has_tone_letter" | "keys")
+    }
+}
 
 impl Subject for Tuned {
     fn name(&self) -> &'static str {
         "hand-tuned Rust"
     }
 
-    fn call(&self, call: Call, text: &[u8], out: &mut [u8]) -> Reply {
+    fn call(&self, question: Question, out: &mut [u8]) -> Reply {
+        let Question { call, text, second } = question;
         match call {
             Call::Strip => tuned::strip(text, out),
             Call::Nfd => tuned::nfd(text, out),
             Call::Nfc => tuned::nfc(text, out),
-            _ => unreachable!(),
+            Call::FromRaw => tuned::from_raw(text, out),
+            Call::Compose { tone, khin } => tuned::compose(text, second, tone, khin, out),
+            Call::Candidate { position } => tuned::candidate(text, position, out),
+            Call::Keying { kind, position } => tuned::keying(text, kind, position, out),
+            Call::Telex { key, mode } => tuned::telex(text, key, mode, second.try_into().unwrap(), out),
+            Call::Listing { from } => tuned::listing(text, from, out),
+            Call::ToneLetter | Call::StripKhin | Call::HasToneLetter | Call::Keys { .. } => unreachable!(),
         }
     }
 }
 
 #[derive(Clone, Copy, Default)]
 struct Tally {
-    /// Texts, each with a form and kind for keys.
+    /// Questions: texts with the call's numbers.
     inputs: u64,
     accepted: u64,
-    /// Inputs refused with 1 to 4 whatever buffer is lent.
-    refused: [u64; 5],
+    /// Inputs refused with 1 to 6 whatever buffer is lent.
+    refused: [u64; 7],
     chance: u64,
     calls: u64,
     /// Calls refused with 7.
@@ -69,9 +84,11 @@ struct Tally {
 pub struct Run<'a> {
     subject: &'a dyn Subject,
     slab: Slab,
-    tallies: [Tally; 7],
+    tallies: [Tally; NAMES.len()],
     digest: Digest,
     families: Vec<(&'static str, u64)>,
+    /// Entries that are not refused, and those of them whose whole list the Rust made.
+    entries: (u64, u64),
 }
 
 impl<'a> Run<'a> {
@@ -79,19 +96,20 @@ impl<'a> Run<'a> {
         Run {
             subject,
             slab: Slab::new(),
-            tallies: [Tally::default(); 7],
+            tallies: [Tally::default(); NAMES.len()],
             digest: Digest::new(),
             families: Vec::new(),
+            entries: (0, 0),
         }
     }
 
-    /// Gives a text to some of the calls; keys in both forms and all kinds.
+    /// Gives a text to some of the calls of ji; keys in both forms and all kinds.
     pub fn feed(&mut self, calls: Calls, text: &[u8]) {
         for call in
             [Call::Strip, Call::ToneLetter, Call::Nfd, Call::Nfc, Call::StripKhin, Call::HasToneLetter]
         {
             if calls.has(call.number()) {
-                self.check(call, text, &oracle::answer(call, text));
+                self.ask(call.of(text));
             }
         }
         if calls.has(6) {
@@ -103,58 +121,66 @@ impl<'a> Run<'a> {
 
     fn feed_keys(&mut self, text: &[u8], form: u64) {
         let kinds = (0..3).map(|kind| Call::Keys { form, kind });
-        match rules::accept(Call::Keys { form, kind: 0 }, text) {
+        match rules::text(text) {
             Ok(good) => {
                 for (call, answer) in kinds.zip(oracle::keys(good, form)) {
-                    self.check(call, text, &answer);
+                    self.check(call.of(text), &answer);
                 }
             }
-            Err(_) => {
-                for call in kinds {
-                    self.check(call, text, &oracle::answer(call, text));
-                }
-            }
+            Err(_) => kinds.for_each(|call| self.ask(call.of(text))),
         }
     }
 
-    /// Gives one call one text, with several buffers lent.
-    pub fn check(&mut self, call: Call, text: &[u8], answer: &Answer) {
-        let tally = &mut self.tallies[call.number()];
+    /// Makes one call, with several buffers lent.
+    pub fn ask(&mut self, question: Question) {
+        self.check(question, &oracle::answer(question));
+    }
+
+    /// The same, where the answer is known already.
+    pub fn check(&mut self, question: Question, answer: &Answer) {
+        self.count(question, answer);
+        for room in rooms(question.call, answer) {
+            self.check_with(question, room, &answer.within(room));
+        }
+    }
+
+    fn count(&mut self, question: Question, answer: &Answer) {
+        let tally = &mut self.tallies[question.call.number()];
         tally.inputs += 1;
         tally.chance += answer.chance as u64;
         match answer.reply.code {
             0 => tally.accepted += 1,
             code => tally.refused[code as usize] += 1,
         }
-        for room in rooms(call, answer) {
-            self.check_with(call, text, room, &answer.within(room));
-        }
     }
 
-    fn check_with(&mut self, call: Call, text: &[u8], room: usize, want: &Answer) {
-        let seen = self.slab.call(self.subject, call, text, room, want);
+    /// A listing, whose answer belongs to one buffer.
+    pub fn check_listing(&mut self, question: Question, room: usize, answer: &Answer) {
+        self.count(question, answer);
+        self.check_with(question, room, answer);
+    }
+
+    fn check_with(&mut self, question: Question, room: usize, want: &Answer) {
+        let number = question.call.number();
+        let seen = self.slab.call(self.subject, question, room, want);
         for field in seen.reply.fields() {
             self.digest.add(&field.to_le_bytes());
         }
         self.digest.add(&seen.out);
-        let tally = &mut self.tallies[call.number()];
+        let tally = &mut self.tallies[number];
         tally.calls += 1;
         tally.no_room += (want.reply.code == 7) as u64;
-        if let Some(wrong) = seen.wrong {
-            tally.differences += 1;
-            if tally.differences <= SHOWN {
-                show(self.subject.name(), call, text, room, wrong, want, &seen.reply, &seen.out);
-            }
+        note(&mut tally.differences, self.subject, question, room, want, &seen);
+        if Tuned::has(number) {
+            let seen = self.slab.call(&Tuned, question, room, want);
+            note(&mut tally.tuned_differences, &Tuned, question, room, want, &seen);
         }
-        if matches!(call, Call::Strip | Call::Nfd | Call::Nfc) {
-            let seen = self.slab.call(&Tuned, call, text, room, want);
-            if let Some(wrong) = seen.wrong {
-                tally.tuned_differences += 1;
-                if tally.tuned_differences <= SHOWN {
-                    show(Tuned.name(), call, text, room, wrong, want, &seen.reply, &seen.out);
-                }
-            }
-        }
+    }
+
+    /// Counts an entry and whether the Rust made its whole list.
+    pub fn count_entry(&mut self, whole: bool) {
+        self.entries.0 += 1;
+        self.entries.1 += whole as u64;
     }
 
     /// Notes how many inputs the family that just ended brought.
@@ -180,20 +206,39 @@ impl<'a> Run<'a> {
             println!("| {name} | {inputs} |");
         }
         println!();
-        println!("| call | inputs | accepted | refused 1 | 2 | 3 | 4 | calls | of these refused 7 | hash order | other differences | hand-tuned: differences |");
-        println!("|---|---:|---:|---:|---:|---:|---:|---:|---:|---:|---:|---:|");
-        let mut sum = Tally::default();
-        for (name, tally) in NAMES.iter().zip(&self.tallies) {
-            row(name, tally, matches!(*name, "strip" | "nfd" | "nfc"));
-            sum = added(sum, tally);
-        }
-        row("all", &sum, true);
+        self.print_calls();
         println!();
         println!(
             "hash order: inputs whose answer the Rust draws by chance; ours is that of document 01's order,"
         );
         println!("the Rust's was one of its orders', in all of them but those counted as other differences.");
+        println!(
+            "entries that are not refused: {}; of {} of them the Rust made its whole lists, which were held to ours",
+            self.entries.0, self.entries.1
+        );
+        println!("position by position; of the others it made the forms of each part.");
         println!("digest of all answers (FNV-1a, 64 bits): {:016x}", self.digest.0);
+    }
+
+    fn print_calls(&self) {
+        println!("| call | inputs | accepted | refused 1 | 2 | 3 | 4 | 5 | 6 | calls | of these refused 7 | hash order | other differences | hand-tuned: differences |");
+        println!("|---|---:|---:|---:|---:|---:|---:|---:|---:|---:|---:|---:|---:|---:|");
+        let mut sum = Tally::default();
+        for (number, tally) in self.tallies.iter().enumerate() {
+            row(NAMES[number], tally, Tuned::has(number));
+            sum = added(sum, tally);
+        }
+        row("all", &sum, true);
+    }
+}
+
+/// Counts a difference, and prints it if there were not too many.
+fn note(count: &mut u64, who: &dyn Subject, question: Question, room: usize, want: &Answer, seen: &Seen) {
+    if let Some(wrong) = seen.wrong {
+        *count += 1;
+        if *count <= SHOWN {
+            show(who.name(), question, room, wrong, want, seen);
+        }
     }
 }
 
@@ -229,10 +274,10 @@ fn added(a: Tally, b: &Tally) -> Tally {
 }
 
 fn row(name: &str, tally: &Tally, tuned: bool) {
-    let [_, one, two, three, four] = tally.refused;
+    let refused: String = tally.refused[1..].iter().map(|count| format!(" {count} |")).collect();
     let tuned = if tuned { tally.tuned_differences.to_string() } else { "-".to_string() };
     println!(
-        "| {name} | {} | {} | {one} | {two} | {three} | {four} | {} | {} | {} | {} | {tuned} |",
+        "| {name} | {} | {} |{refused} {} | {} | {} | {} | {tuned} |",
         tally.inputs, tally.accepted, tally.calls, tally.no_room, tally.chance, tally.differences
     );
 }
@@ -242,283 +287,27 @@ fn hex(bytes: &[u8]) -> String {
 }
 
 /// One difference in full.
-#[allow(clippy::too_many_arguments)]
-pub fn show(
-    who: &str,
-    call: Call,
-    text: &[u8],
-    room: usize,
-    wrong: &str,
-    want: &Answer,
-    reply: &Reply,
-    out: &[u8],
-) {
+pub fn show(who: &str, question: Question, room: usize, wrong: &str, want: &Answer, seen: &Seen) {
+    let Question { call, text, second } = question;
     println!(
         "DIFFERENCE {who} {call:?} in {wrong}: text {} ({:?}), {room} bytes lent",
         hex(text),
         String::from_utf8_lossy(text)
     );
+    if !second.is_empty() {
+        println!("  second text {} ({:?})", hex(second), String::from_utf8_lossy(second));
+    }
     println!("  expected {:?} {}", want.reply.fields(), hex(&want.out));
-    println!("  answered {:?} {}", reply.fields(), hex(out));
+    println!("  answered {:?} {}", seen.reply.fields(), hex(&seen.out));
 }
 
-/// Everything that is compared. Each family draws from a seed of its own, so
-/// that one more family leaves the others as they were.
+/// Everything that is compared.
 pub fn run(subject: &dyn Subject, seed: u64) -> Run<'_> {
     let mut run = Run::new(subject);
-    short(&mut run);
-    bytes(&mut run);
-    syllables(&mut run);
-    at_bounds(&mut run);
-    wrong_numbers(&mut run);
-    random_short(&mut run, &mut Maker::new(seed ^ 1));
-    random_lengths(&mut run, &mut Maker::new(seed ^ 2));
-    too_long(&mut run, &mut Maker::new(seed ^ 3));
-    damaged(&mut run, &mut Maker::new(seed ^ 4));
-    khin(&mut run, &mut Maker::new(seed ^ 5));
+    of_ji::run(&mut run, seed);
+    of_khiin::run(&mut run, seed);
     run
 }
 
-fn short(run: &mut Run) {
-    let (table, telling) = (rules::table(), inputs::telling());
-    run.feed(Calls::ALL, b"");
-    inputs::scalars(&mut |text| run.feed(Calls::CHECKING, text));
-    run.family("every code point of Unicode alone");
-    inputs::tuples(&table, 2, &mut |text| run.feed(Calls::WRITING, text));
-    run.family("every pair over the whole table");
-    inputs::tuples(&telling, 3, &mut |text| run.feed(Calls::WRITING, text));
-    run.family("every triple over the telling alphabet");
-    inputs::tuples(&telling, 2, &mut |text| run.feed(Calls::LETTER, text));
-    inputs::tuples(&inputs::letters(), 3, &mut |text| run.feed(Calls::LETTER, text));
-    run.family("every pair over the telling alphabet and triple over the tone letters, for the tone letter");
-    for size in 4..=5 {
-        inputs::tuples(&inputs::keying()[..if size == 4 { 16 } else { 11 }], size, &mut |text| {
-            run.feed(Calls::WRITING, text)
-        });
-        inputs::tuples(&inputs::marking(), size, &mut |text| run.feed(Calls::WRITING, text));
-    }
-    run.family("every text of 4 or 5 over what keys and what reorders");
-}
-
-fn bytes(run: &mut Run) {
-    let all: Vec<u8> = (0..=255).collect();
-    for size in 1..=2 {
-        inputs::byte_tuples(&all, size, &mut |text| run.feed(Calls::ALL, text));
-    }
-    run.family("every sequence of 1 or 2 bytes");
-    for size in 3..=4 {
-        inputs::byte_tuples(&inputs::BYTES, size, &mut |text| run.feed(Calls::CHECKING, text));
-    }
-    run.family("every sequence of 3 or 4 bytes at the edges of UTF-8");
-}
-
-fn syllables(run: &mut Run) {
-    let mut count = 0;
-    inputs::syllables(&mut |text| {
-        run.feed(Calls::WRITING, text);
-        if count % 4 == 1 {
-            run.feed(Calls::LETTER, text);
-        }
-        count += 1;
-    });
-    run.family("every well-formed syllable, decomposed and composed");
-}
-
-fn at_bounds(run: &mut Run) {
-    for text in inputs::edges() {
-        run.feed(Calls::ALL, &text);
-    }
-    run.family("at the bounds");
-}
-
-/// Forms and kinds that there are not, which win over any fault of the text.
-fn wrong_numbers(run: &mut Run) {
-    let numbers =
-        [0, 1, 2, 3, 4, 255, 256, 257, 258, 1 << 16, 1 << 31, 1 << 32, (1 << 32) + 1, 1 << 63, u64::MAX];
-    let long = vec![b'a'; 257];
-    let texts: [&[u8]; 7] = [
-        b"",
-        "o\u{358}\u{301}".as_bytes(),
-        &long,
-        &[0xC3],
-        "\u{250}".as_bytes(),
-        b"ah",
-        "\u{1e73}".as_bytes(),
-    ];
-    for form in numbers {
-        for kind in numbers {
-            for text in texts {
-                let call = Call::Keys { form, kind };
-                run.check(call, text, &oracle::answer(call, text));
-            }
-        }
-    }
-    run.family("keys with wrong forms and kinds");
-}
-
-fn random_short(run: &mut Run, maker: &mut Maker) {
-    for count in 0..350_000 {
-        let size = 1 + maker.random.below(12);
-        let text = maker.pieces(STYLES[count % STYLES.len()], size);
-        run.feed(Calls::WRITING, &text);
-        run.feed(Calls::KHIN, &text);
-        if count % 4 == 0 {
-            run.feed(Calls::LETTER, &text);
-        }
-    }
-    run.family("random texts of 1 to 12 pieces");
-}
-
-fn random_lengths(run: &mut Run, maker: &mut Maker) {
-    for size in 0..=rules::MOST {
-        for turn in 0..350 {
-            let text = maker.text(STYLES[turn % STYLES.len()], size);
-            run.feed(Calls::STRIP, &text);
-            run.feed(Calls::NORMAL, &text);
-            if turn % 5 == 0 {
-                run.feed(Calls::KEYS, &text);
-            }
-            if turn % 10 == 0 {
-                run.feed(Calls::LETTER, &text);
-            }
-        }
-    }
-    run.family("random texts of every length from 0 to 256 bytes");
-}
-
-fn too_long(run: &mut Run, maker: &mut Maker) {
-    let sizes = (257..=320).chain([511, 512, 513, 1000, 1024, 4096, 65_535, 65_536, 65_537]);
-    for size in sizes {
-        for style in STYLES {
-            let text = maker.text(style, size);
-            run.feed(Calls::ALL, &text);
-            let mut copy = text.clone();
-            let at = maker.random.below(copy.len());
-            copy[at] = 0xFF;
-            run.feed(Calls::ALL, &copy);
-        }
-    }
-    run.family("texts above 256 bytes, good and bad");
-}
-
-fn damaged(run: &mut Run, maker: &mut Maker) {
-    for count in 0..200_000 {
-        let size = match count % 4 {
-            0 => 250 + maker.random.below(7),
-            1 => maker.random.below(257),
-            _ => maker.random.below(24),
-        };
-        let text = maker.text(STYLES[count % STYLES.len()], size);
-        let copy = maker.damaged(&text);
-        run.feed(if count % 8 == 0 { Calls::ALL } else { Calls::WRITING }, &copy);
-    }
-    run.family("damaged copies of good texts");
-}
-
-fn khin(run: &mut Run, maker: &mut Maker) {
-    for size in 1..=6 {
-        inputs::byte_tuples(&[b'-', 0xC2, 0xB7, b'a', 0xC3, 0x80, 0x00], size, &mut |text| {
-            run.feed(Calls::KHIN, text)
-        });
-    }
-    for size in 0..=1024 {
-        for begin in ["", "-", "--", "---", "\u{b7}", "\u{b7}\u{b7}", "--\u{b7}", "\u{b7}--"] {
-            let text = [begin.as_bytes(), &maker.text(Style::Any, size)].concat();
-            run.feed(Calls::KHIN, &text);
-            run.feed(Calls::KHIN, &maker.damaged(&text));
-        }
-    }
-    run.family("beginnings with and without the khin sign");
-}
-
 #[cfg(test)]
-mod tests {
-    use super::*;
-    use crate::standin::StandIn;
-
-    /// The stand-in with one fault.
-    struct Faulty(fn(Call, &[u8], &mut [u8], Reply) -> Reply);
-
-    impl Subject for Faulty {
-        fn name(&self) -> &'static str {
-            "faulty stand-in"
-        }
-
-        fn call(&self, call: Call, text: &[u8], out: &mut [u8]) -> Reply {
-            let reply = StandIn.call(call, text, out);
-            (self.0)(call, text, out, reply)
-        }
-    }
-
-    fn differences(subject: &dyn Subject) -> u64 {
-        let mut run = Run::new(subject);
-        for text in inputs::edges() {
-            run.feed(Calls::WRITING, &text);
-            run.feed(Calls::KHIN, &text);
-        }
-        inputs::tuples(&inputs::telling(), 2, &mut |text| run.feed(Calls::WRITING, text));
-        for text in
-            ["", "o", "ng", "hm", "ho\u{e1}n", "x", "O\u{358}\u{358}", "o\u{324}\u{358}", "--a", "\u{b7}a"]
-        {
-            run.feed(Calls::ALL, text.as_bytes());
-        }
-        run.differences()
-    }
-
-    #[test]
-    fn the_stand_in_passes() {
-        assert_eq!(differences(&StandIn), 0);
-    }
-
-    #[test]
-    fn every_fault_is_found() {
-        let faults: [(&str, fn(Call, &[u8], &mut [u8], Reply) -> Reply); 12] = [
-            ("tone 4 lost", |_, _, _, r| Reply { tone: if r.tone == 4 { 1 } else { r.tone }, ..r }),
-            ("a field that is not given", |_, _, _, r| Reply { body: r.length, ..r }),
-            ("count in a refusal", |_, _, _, r| Reply { count: (r.code == 4) as u64, ..r }),
-            ("3 given as 4", |_, _, _, r| Reply { code: if r.code == 3 { 4 } else { r.code }, ..r }),
-            ("7 given as 2", |_, _, _, r| Reply { code: if r.code == 7 { 2 } else { r.code }, ..r }),
-            ("first byte wrong", |_, _, out, r| {
-                if r.code == 0 && !out.is_empty() && r.length > 0 {
-                    out[0] ^= 1;
-                }
-                r
-            }),
-            ("a byte behind the output", |_, _, out, r| {
-                if r.code == 0 && (r.length as usize) < out.len() {
-                    out[r.length as usize] = 0;
-                }
-                r
-            }),
-            ("written in spite of a refusal", |_, _, out, r| {
-                if r.code == 7 && !out.is_empty() {
-                    out[0] = b'a';
-                }
-                r
-            }),
-            ("one byte past the buffer", |call, _, out, r| {
-                if call.writes() && r.code == 0 {
-                    // Safety: the slab's guard lies there.
-                    unsafe { *out.as_mut_ptr().add(out.len()) = 0 };
-                }
-                r
-            }),
-            ("position off by one", |call, _, _, r| Reply {
-                position: r.position + (call == Call::ToneLetter) as u64,
-                ..r
-            }),
-            ("khin lost", |_, _, _, r| Reply { khin: 0, ..r }),
-            ("the other hash order", |call, _, out, r| {
-                if let (Call::Keys { form: 1, .. }, b"Oo\xCD\x98", 0) =
-                    (call, &out[..out.len().min(4)], r.code)
-                {
-                    out[2..4].copy_from_slice(b"o1");
-                }
-                r
-            }),
-        ];
-        for (name, fault) in faults {
-            assert!(differences(&Faulty(fault)) > 0, "{name}");
-        }
-    }
-}
+mod tests;

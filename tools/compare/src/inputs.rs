@@ -29,6 +29,43 @@ pub fn keying() -> Vec<char> {
     "oOuUenNha\u{324}\u{358}\u{207f}\u{1d3a}\u{1e73}\u{301}\u{34f}".chars().collect()
 }
 
+/// What compose looks at, the vowels and nasals first.
+pub fn spelling() -> Vec<char> {
+    "oOuUeEnNhHa\u{207f}\u{1d3a}\u{358}\u{324}ipTkmMg-\u{301}\u{30d}\u{f3}\u{1e73}1x".chars().collect()
+}
+
+/// What from_composed looks at.
+pub fn composed() -> Vec<char> {
+    "oOuU\u{324}\u{358}\u{207f}\u{1d3a}-\u{b7}\u{301}h\u{1e73}\u{34f}".chars().collect()
+}
+
+/// What makes the keyings of an entry.
+pub fn entries() -> Vec<char> {
+    "o \u{358}\u{324}\u{301}aO\u{207f}h".chars().collect()
+}
+
+/// Ends of texts that the branches of the telex step look at, and their neighbours.
+#[rustfmt::skip]
+pub fn typed() -> Vec<&'static str> {
+    vec![
+        "", "a", "A", "o", "O", "u", "e", "n", "N", "m", "h", "t", "P", "nn", "x", "-", " ", "\u{0}",
+        "\u{207f}", "\u{1d3a}", "h\u{207f}", "h\u{1d3a}", "o\u{358}", "O\u{358}", "\u{f3}\u{358}",
+        "o\u{324}", "O\u{324}", "\u{f3}\u{324}", "o\u{30d}\u{324}", "\u{1e73}", "\u{1e72}", "u\u{324}",
+        "U\u{324}", "\u{1e73}\u{301}", "\u{e1}", "\u{e0}", "\u{e2}", "\u{e3}", "\u{101}", "a\u{30d}",
+        "a\u{30d}h", "\u{103}", "\u{101}h", "\u{144}g", "\u{1e3f}", "\u{344}", "\u{340}", "\u{f1}",
+        "\u{301}", "\u{1e96}", "o\u{358}\u{301}", "o\u{324}\u{358}", "o\u{34f}\u{358}",
+    ]
+}
+
+/// Tone keys for t2 t3 t5 t6 t7 t8 t9: the usual ones; none shared; capitals,
+/// which match no key; letters that other branches and the endings look at; all
+/// the same; shared ones of every tone; digits; the first and last that there are.
+#[rustfmt::skip]
+pub const SETTINGS: [[u8; 7]; 16] = [
+    *b"sflxjjw", *b"zfvxjdw", *b"sFhnJJo", *b"SFLXJJW", *b"aoeuinh", *b"nnnnnnn", *b"sflxjsw", *b"sflxjfw",
+    *b"sflxjlw", *b"sflxjxw", *b"sflxjww", *b"hptkhhn", *b"2356789", *b"uoUOnNe", *b"!~-=!~A", *b"98765jj",
+];
+
 /// A starter and marks that compose, block and change places.
 pub fn marking() -> Vec<char> {
     "oa\u{301}\u{308}\u{31b}\u{323}\u{324}\u{344}\u{34f}\u{358}".chars().collect()
@@ -173,7 +210,7 @@ impl Maker {
         (0..count).map(|_| self.piece(style)).collect::<String>().into_bytes()
     }
 
-    fn piece(&mut self, style: Style) -> String {
+    pub fn piece(&mut self, style: Style) -> String {
         let random = &mut self.random;
         match style {
             Style::Any => random.pick(&self.table).to_string(),
@@ -190,15 +227,65 @@ impl Maker {
     }
 
     fn syllable(&mut self) -> String {
+        let written = self.alone();
+        let between = self.random.pick(&["", "", "-", " ", "--", "\u{b7}"]);
+        format!("{between}{written}")
+    }
+
+    /// A syllable with nothing before it.
+    pub fn alone(&mut self) -> String {
         let random = &mut self.random;
         let rime = &self.rimes[random.below(self.rimes.len())];
         let text = format!("{}{rime}", random.pick(&ONSETS));
         let text = if random.once_in(4) { capital(&text) } else { text };
         let place = text.find(['o', 'a', 'e', 'u', 'i', 'O', 'A']).unwrap_or(0);
         let marked = with_tone(&text, place, random.pick(&TONES));
-        let written = if random.once_in(3) { marked } else { marked.nfc().collect() };
-        let between = random.pick(&["", "", "-", " ", "--", "\u{b7}"]);
-        format!("{between}{written}")
+        if random.once_in(3) {
+            marked
+        } else {
+            marked.nfc().collect()
+        }
+    }
+
+    /// An entry of so many parts or, where a part holds a space, of more.
+    pub fn entry(&mut self, parts: usize) -> Vec<u8> {
+        let all: Vec<String> = (0..parts).map(|_| self.part()).collect();
+        all.join(" ").into_bytes()
+    }
+
+    fn part(&mut self) -> String {
+        match self.random.below(12) {
+            0 => String::new(),
+            1 => (0..3).map(|_| self.random.pick(&self.keying)).collect(),
+            2 => self.piece(Style::Any) + &self.piece(Style::Marks),
+            3 => self.alone() + "\u{358}",
+            4 => format!(
+                "k{}",
+                self.random.pick(&["o\u{358}", "\u{f3}\u{358}", "O\u{358}h", "\u{14d}\u{358}"])
+            ),
+            _ => self.alone(),
+        }
+    }
+
+    /// Seven tone keys, some of them shared, most of them small letters.
+    pub fn settings(&mut self) -> [u8; 7] {
+        if self.random.once_in(3) {
+            return self.random.pick(&SETTINGS);
+        }
+        let mut keys: [u8; 7] = std::array::from_fn(|_| self.setting());
+        if self.random.once_in(2) {
+            keys[5] = self.random.pick(&keys);
+        }
+        keys
+    }
+
+    fn setting(&mut self) -> u8 {
+        let random = &mut self.random;
+        match random.below(4) {
+            0 => 0x21 + random.below(0x5E) as u8,
+            1 => random.pick(b"nouehptkNOUE"),
+            _ => b'a' + random.below(26) as u8,
+        }
     }
 
     /// A copy with one to three faults; some of them leave it good.
@@ -240,6 +327,20 @@ fn outside(random: &mut Random) -> char {
         }
     }
 }
+
+/// Positions and line numbers far from the small ones.
+pub const FAR: [u64; 10] = [
+    255,
+    256,
+    65_536,
+    u32::MAX as u64,
+    1 << 32,
+    (1 << 32) + 1,
+    (1 << 33) + 65_537,
+    1 << 63,
+    u64::MAX - 1,
+    u64::MAX,
+];
 
 /// Each way of being ill-formed by Unicode's table 3-7.
 pub const ILL_FORMED: [&[u8]; 26] = [
@@ -360,6 +461,147 @@ fn length_edges() -> Vec<Vec<u8>> {
     all
 }
 
+/// One text for each fault and its neighbours without it.
+pub fn faults() -> Vec<Vec<u8>> {
+    let mut all: Vec<Vec<u8>> = vec![
+        vec![],
+        b"a".to_vec(),
+        "\u{24f}".into(),
+        "\u{250}".into(),
+        vec![0xC9],
+        vec![0x80],
+        "\u{10061}".into(),
+        ["\u{250}".as_bytes(), &[0xFF]].concat(),
+        "ho\u{e1}n".into(),
+    ];
+    for size in [255, 256, 257, 258] {
+        all.push(vec![b'o'; size]);
+        all.push(filled("x", size - 1, &[0xC3]));
+        all.push(filled("x", size - 2, "\u{250}".as_bytes()));
+    }
+    all
+}
+
+/// Texts of 256 bytes with the longest answers: of compose, and of the telex step
+/// with a repeated and with another key.
+pub fn longest() -> [String; 3] {
+    let many = "\u{1d9}".repeat(127);
+    [format!("\u{344}\u{344}{}", "onn".repeat(84)), format!("{many}\u{1d8}"), format!("{many}\u{1d9}")]
+}
+
+/// Those, and bodies of 250 to 256 bytes whose composed text is long: what
+/// decomposes, what takes 0358 or a sign, what is moved.
+#[rustfmt::skip]
+pub fn longest_bodies() -> Vec<Vec<u8>> {
+    let mut all = longest().map(String::into_bytes).to_vec();
+    for size in 250..=256 {
+        for unit in [
+            "onn", "onN", "eoo", "EUeu", "ou", "\u{344}", "\u{1d9}", "o\u{207f}", "oh\u{207f}",
+            "OH\u{1d3a}", "Onn", "m",
+        ] {
+            all.push(filled(unit, size, b""));
+            all.push(filled(unit, size - 3, b"ann"));
+        }
+        all.push([&b"\xCD\x84\xCD\x84"[..], &filled("onn", size - 4, b"")].concat());
+    }
+    all
+}
+
+/// Raw keys: every bound, and bytes above 7F on both sides of it.
+pub fn raw_edges() -> Vec<Vec<u8>> {
+    let mut all = Vec::new();
+    for size in [0, 1, 2, 3, 254, 255, 256, 257, 258, 300, 512, 1024, 4096] {
+        for tail in
+            [&b""[..], b"0", b"1", b"9", b"/", b":", b"a", &[0x7F], &[0x80], &[0xFF], "\u{e1}".as_bytes()]
+        {
+            all.push(filled("o", size, tail));
+            all.push([tail, &filled("n", size, b"5")].concat());
+            all.push([tail, &filled("n", size, b"")].concat());
+        }
+    }
+    all
+}
+
+/// Entries at the bounds: their length, the number of their parts, the length
+/// of a part, and each fault beside each other one.
+pub fn entry_edges() -> Vec<Vec<u8>> {
+    let mut all = part_edges();
+    all.extend(size_edges());
+    all.extend(mixed_faults());
+    all
+}
+
+/// 1 to 18 parts, and one part of 254 to 258 bytes among them.
+fn part_edges() -> Vec<Vec<u8>> {
+    let mut all = Vec::new();
+    for count in 1..=18 {
+        for part in ["", "a", "o\u{358}", "t\u{e2}i", "a\u{358}"] {
+            all.push(vec![part; count].join(" ").into_bytes());
+        }
+    }
+    for size in 254..=258 {
+        for unit in ["a", "\u{1d9}", "o\u{358}", "\u{207f}", "\u{344}"] {
+            let long = String::from_utf8(filled(unit, size, b"")).unwrap();
+            for (before, after) in
+                [("", ""), ("", " a"), ("a ", ""), ("o\u{358} ", " b"), (" ", " "), ("", " o\u{358} c d")]
+            {
+                all.push(format!("{before}{long}{after}").into_bytes());
+            }
+            all.push([&long[..], "b", &long].join(" ").into_bytes());
+        }
+    }
+    all
+}
+
+/// Entries of 1,020 to 1,028 bytes and longer, with parts of every length.
+fn size_edges() -> Vec<Vec<u8>> {
+    let mut all = Vec::new();
+    for size in [1020, 1021, 1022, 1023, 1024, 1025, 1026, 1028, 1100, 2000] {
+        for unit in ["a", "\u{1d9}", "\u{344}", "o\u{358}", "\u{207f}"] {
+            for part in [63, 128, 204, 255, 256, 257] {
+                all.push(parted(unit, part, size));
+            }
+            all.push(filled(unit, size, b""));
+        }
+    }
+    all
+}
+
+/// Parts of `part` bytes up to `size` bytes together.
+fn parted(unit: &str, part: usize, size: usize) -> Vec<u8> {
+    let mut entry = Vec::new();
+    while entry.len() + part < size {
+        entry.extend(filled(unit, part, b" "));
+    }
+    let rest = size - entry.len();
+    entry.extend(filled(unit, rest, b""));
+    entry
+}
+
+/// Each fault of an entry alone and with each other one, in both orders.
+fn mixed_faults() -> Vec<Vec<u8>> {
+    let faults: [Vec<u8>; 9] = [
+        vec![b'a'; 1025],
+        vec![b'a'; 257],
+        vec![b' '; 16],
+        vec![b' '; 15],
+        vec![0xC3],
+        vec![0xC3, b' ', 0xA1],
+        vec![0xE1, 0xB8],
+        "\u{250}".into(),
+        "\u{10061}".into(),
+    ];
+    let mut all = Vec::new();
+    for first in &faults {
+        all.push(first.clone());
+        for second in &faults {
+            all.push([first, &b" "[..], second].concat());
+            all.push([first, &b"a"[..], second].concat());
+        }
+    }
+    all
+}
+
 /// `unit` as often as it fits into `size` bytes, then letters to fill up, then the tail.
 fn filled(unit: &str, size: usize, tail: &[u8]) -> Vec<u8> {
     let mut text = unit.repeat(size / unit.len()).into_bytes();
@@ -378,7 +620,7 @@ mod tests {
         assert_eq!(rimes().len(), 160);
         let mut count = 0;
         syllables(&mut |text| {
-            assert!(rules::accept(crate::call::Call::Strip, text).is_ok());
+            assert!(rules::text(text).is_ok());
             count += 1;
         });
         assert_eq!(count, 2 * 46_080);
@@ -403,7 +645,7 @@ mod tests {
             for size in 0..=256 {
                 let text = maker.text(style, size);
                 assert_eq!(text.len(), size);
-                assert!(rules::accept(crate::call::Call::Nfd, &text).is_ok());
+                assert!(rules::text(&text).is_ok());
             }
         }
     }

@@ -5,6 +5,7 @@ mod archive;
 mod call;
 mod compare;
 mod digest;
+mod entries;
 mod inputs;
 mod normalization;
 mod oracle;
@@ -36,7 +37,7 @@ const USAGE: &str = "usage: compare compare [SEED]
        compare vectors DIR
        compare normalization FILE DIR
        compare replay FILE...
-       compare speed";
+       compare speed [PART]";
 
 fn main() -> ExitCode {
     let words: Vec<String> = env::args().skip(1).collect();
@@ -59,10 +60,8 @@ fn act(words: &[&str]) -> io::Result<ExitCode> {
             normalization::write(Path::new(file), Path::new(folder)).map(|_| ExitCode::SUCCESS)
         }
         ["replay", files @ ..] if !files.is_empty() => replayed(files),
-        ["speed"] => {
-            speed::run();
-            Ok(ExitCode::SUCCESS)
-        }
+        ["speed"] => Ok(measured("")),
+        ["speed", part] => Ok(measured(part)),
         _ => Err(wrong(USAGE)),
     }
 }
@@ -77,10 +76,16 @@ fn compared(seed: u64) -> ExitCode {
     ExitCode::from((run.differences() > 0) as u8)
 }
 
+fn measured(part: &str) -> ExitCode {
+    speed::run(part);
+    ExitCode::SUCCESS
+}
+
 fn replayed(files: &[&str]) -> io::Result<ExitCode> {
-    let mut sum = 0;
+    let mut counts = replay::Counts::default();
     for file in files {
-        sum += replay::file(SUBJECT, Path::new(file))?;
+        replay::file(SUBJECT, Path::new(file), &mut counts)?;
     }
-    Ok(ExitCode::from((sum > 0) as u8))
+    counts.print();
+    Ok(ExitCode::from((counts.wrong() > 0) as u8))
 }

@@ -19,7 +19,7 @@ fn answer(text: &str) -> Answer {
 
 /// The buffer is exactly full.
 fn add(to: &mut Vec<u8>, call: Call, text: &str, want: &str) {
-    Record::new(call, text.as_bytes(), want.len(), &answer(want)).write(to);
+    Record::new(call.of(text.as_bytes()), want.len(), &answer(want)).write(to);
 }
 
 fn column(field: &str) -> Option<String> {

@@ -1,8 +1,11 @@
 //! What a call must answer: by document 01's rules where it refuses, else by
 //! the unchanged Rust.
 
-use crate::call::{Call, Reply};
+use crate::call::{Call, Question, Reply};
+use crate::entries::Lists;
 use crate::rules;
+use khiin::config::ToneMode;
+use khiin::{Settings, Syllable};
 use khiin_ji::lomaji;
 use khiin_ji::unicode_normalization::UnicodeNormalization;
 use std::collections::BTreeSet;
@@ -17,7 +20,7 @@ pub struct Answer {
 }
 
 impl Answer {
-    fn refusal(code: u64) -> Answer {
+    pub fn refusal(code: u64) -> Answer {
         Answer { reply: Reply::refusal(code), out: Vec::new(), chance: false }
     }
 
@@ -25,9 +28,23 @@ impl Answer {
         Answer { reply, out: Vec::new(), chance: false }
     }
 
-    fn text(out: String, tone: u64) -> Answer {
+    pub fn text(out: String, tone: u64) -> Answer {
         let reply = Reply { length: out.len() as u64, tone, ..Reply::default() };
         Answer { reply, out: out.into_bytes(), chance: false }
+    }
+
+    /// A syllable record, one of `count`.
+    fn record(syllable: &Syllable, count: usize) -> Answer {
+        assert!(syllable.raw().starts_with(syllable.body()), "the body begins the raw input: {syllable:?}");
+        let reply = Reply {
+            length: syllable.raw().len() as u64,
+            count: count as u64,
+            body: syllable.body().len() as u64,
+            tone: syllable.tone(),
+            khin: syllable.khin() as u64,
+            ..Reply::default()
+        };
+        Answer { reply, out: syllable.raw().as_bytes().to_vec(), chance: false }
     }
 
     /// The answer with `room` bytes lent: refusal 7 where it does not fit.
@@ -39,22 +56,19 @@ impl Answer {
     }
 }
 
-pub fn answer(call: Call, text: &[u8]) -> Answer {
-    match call {
-        Call::StripKhin => return strip_khin(text),
-        Call::Keys { form, kind } => {
-            return match rules::accept(call, text) {
-                Err(code) => Answer::refusal(code),
-                Ok(text) => keys(text, form).swap_remove(kind as usize),
-            }
-        }
-        _ => (),
+/// The answer to any call but a listing, whose output depends on the room.
+pub fn answer(question: Question) -> Answer {
+    if question.call == Call::StripKhin {
+        return strip_khin(question.text);
     }
-    let text = match rules::accept(call, text) {
-        Err(code) => return Answer::refusal(code),
-        Ok(text) => text,
-    };
-    match call {
+    match rules::accept(&question) {
+        Err(code) => Answer::refusal(code),
+        Ok((text, body)) => accepted(question, text, body),
+    }
+}
+
+fn accepted(question: Question, text: &str, body: &str) -> Answer {
+    match question.call {
         Call::Strip => {
             let (rest, tone) = lomaji::strip_tone_diacritic(text);
             Answer::text(rest, tone as u64)
@@ -62,10 +76,41 @@ pub fn answer(call: Call, text: &[u8]) -> Answer {
         Call::ToneLetter => tone_letter(lomaji::get_tone_position(text)),
         Call::Nfd => Answer::text(text.nfd().collect(), 0),
         Call::Nfc => Answer::text(text.nfc().collect(), 0),
-        _ => {
+        Call::HasToneLetter => {
             let length = lomaji::has_tone_letter(text) as u64;
             Answer::numbers(Reply { length, ..Reply::default() })
         }
+        Call::Keys { form, kind } => keys(text, form).swap_remove(kind as usize),
+        Call::FromRaw => Answer::record(&Syllable::from_raw(text), 0),
+        Call::Compose { tone, khin } => Answer::text(Syllable::new(text, body, tone, khin == 1).compose(), 0),
+        Call::Candidate { position } => at(&candidates(text), position),
+        Call::Keying { kind, position } => Lists::of(text).keying(kind, position),
+        Call::Telex { key, mode } => {
+            let key = char::from_u32(key as u32).unwrap();
+            Answer::text(settings(mode, question.second).telex(text, key), 0)
+        }
+        Call::StripKhin | Call::Listing { .. } => unreachable!(),
+    }
+}
+
+/// The settings of the Rust for a mode and seven tone keys.
+pub fn settings(mode: u64, keys: &[u8]) -> Settings {
+    let mode = if mode == 0 { ToneMode::Numeric } else { ToneMode::Telex };
+    Settings::new(mode, std::array::from_fn(|i| keys[i] as char))
+}
+
+/// The records of a text's candidates.
+pub fn candidates(text: &str) -> Vec<Answer> {
+    let all = Syllable::from_composed(text);
+    all.iter().map(|syllable| Answer::record(syllable, all.len())).collect()
+}
+
+/// The answer at a position, which is refused where there is none.
+pub fn at(answers: &[Answer], position: u64) -> Answer {
+    if position < answers.len() as u64 {
+        answers[position as usize].clone()
+    } else {
+        Answer::refusal(6)
     }
 }
 
@@ -178,6 +223,39 @@ mod tests {
         let mut longer = order.clone();
         longer.insert(at, item);
         longer
+    }
+
+    fn text(call: Call, text: &str, second: &str) -> String {
+        let question = Question { call, text: text.as_bytes(), second: second.as_bytes() };
+        String::from_utf8(answer(question).out).unwrap()
+    }
+
+    /// Document 01's examples of the calls of khiin, starred or not.
+    #[test]
+    fn the_rust_answers_as_the_examples_say() {
+        for (keys, want) in [
+            ("oo2", "\u{f3}\u{358}"),
+            ("eo8", "o\u{30d}\u{324}"),
+            ("onn1", "o\u{358}\u{207f}"),
+            ("x2", "x2"),
+            ("Eo1", "o\u{324}"),
+            ("hoan2", "ho\u{e1}n"),
+        ] {
+            let record = answer(Call::FromRaw.of(keys.as_bytes())).reply;
+            assert_eq!((record.body as usize, record.khin), (keys.len() - 1, 0));
+            let call = Call::Compose { tone: record.tone, khin: 0 };
+            assert_eq!(text(call, keys, &keys[..record.body as usize]), want);
+        }
+        assert_eq!(text(Call::Candidate { position: 0 }, "--\u{e1}", ""), "a20");
+        for (given, key, want) in [
+            ("a", b's', "\u{e1}"),
+            ("ah", b'j', "a\u{30d}h"),
+            ("\u{101}", b'j', "aj"),
+            ("a\u{207f}", b'n', "an"),
+            ("t", b's', "ts"),
+        ] {
+            assert_eq!(text(Call::Telex { key: key as u64, mode: 1 }, given, "sflxjjw"), want);
+        }
     }
 
     #[test]

@@ -1,6 +1,6 @@
 //! Gives the records of fixed lists to a subject.
 
-use crate::call::Subject;
+use crate::call::{Subject, NAMES};
 use crate::compare;
 use crate::record::Record;
 use crate::slab::Slab;
@@ -8,27 +8,44 @@ use std::fs;
 use std::io;
 use std::path::Path;
 
-/// How many records of the file were answered otherwise.
-pub fn file(subject: &dyn Subject, path: &Path) -> io::Result<u64> {
+/// How many records there were of each call, and how many were answered otherwise.
+#[derive(Default)]
+pub struct Counts([(u64, u64); NAMES.len()]);
+
+impl Counts {
+    pub fn wrong(&self) -> u64 {
+        self.0.iter().map(|count| count.1).sum()
+    }
+
+    /// A line for each call that there was, as the program that replays the lists prints it.
+    pub fn print(&self) {
+        for (name, (records, wrong)) in NAMES.iter().zip(self.0) {
+            if records > 0 {
+                println!("{name} {records} {wrong}");
+            }
+        }
+    }
+}
+
+/// Replays a file.
+pub fn file(subject: &dyn Subject, path: &Path, counts: &mut Counts) -> io::Result<()> {
     let bytes = fs::read(path)?;
     let (mut rest, mut slab) = (&bytes[..], Slab::new());
-    let (mut count, mut wrong) = (0u64, 0u64);
     while !rest.is_empty() {
         let broken = || {
-            io::Error::new(
-                io::ErrorKind::InvalidData,
-                format!("{}: record {count} is broken", path.display()),
-            )
+            let at = bytes.len() - rest.len();
+            io::Error::new(io::ErrorKind::InvalidData, format!("{}: broken at byte {at}", path.display()))
         };
         let (record, next) = Record::read(rest).ok_or_else(broken)?;
-        let Record { call, text, room, want } = record;
-        let seen = slab.call(subject, call, &text, room, &want);
+        let (question, room) = (record.question(), record.room);
+        let seen = slab.call(subject, question, room, &record.want);
+        let count = &mut counts.0[question.call.number()];
+        count.0 += 1;
         if let Some(what) = seen.wrong {
-            wrong += 1;
-            compare::show(subject.name(), call, &text, room, what, &want, &seen.reply, &seen.out);
+            count.1 += 1;
+            compare::show(subject.name(), question, room, what, &record.want, &seen);
         }
-        (rest, count) = (next, count + 1);
+        rest = next;
     }
-    println!("{}: {count} records, {wrong} answered otherwise by {}", path.display(), subject.name());
-    Ok(wrong)
+    Ok(())
 }

@@ -1,11 +1,13 @@
 //! Lends a buffer with guards around it and looks at every byte afterwards.
 
-use crate::call::{Call, Reply, Subject};
+use crate::call::{Question, Reply, Subject};
 use crate::oracle::Answer;
 
 const GUARD: usize = 64;
 /// The largest buffer that is lent.
-pub const ROOM: usize = 1024;
+pub const ROOM: usize = 1 << 16;
+/// So many bytes from the begin of the buffer on are looked at, however few are lent.
+const NEAR: usize = 1024;
 
 /// Bytes that stand in no well-formed UTF-8, so that no right output can look like them.
 fn fill(at: usize) -> u8 {
@@ -16,6 +18,7 @@ pub struct Slab {
     bytes: Vec<u8>,
     clean: Vec<u8>,
     text: Vec<u8>,
+    second: Vec<u8>,
 }
 
 /// What a call did, and whether it was right.
@@ -29,43 +32,41 @@ pub struct Seen {
 impl Slab {
     pub fn new() -> Slab {
         let clean: Vec<u8> = (0..GUARD + ROOM + GUARD).map(fill).collect();
-        Slab { bytes: clean.clone(), clean, text: Vec::new() }
+        Slab { bytes: clean.clone(), clean, text: Vec::new(), second: Vec::new() }
     }
 
     /// Makes the call with `room` bytes lent and holds it to `want`.
-    pub fn call(
-        &mut self,
-        subject: &dyn Subject,
-        call: Call,
-        text: &[u8],
-        room: usize,
-        want: &Answer,
-    ) -> Seen {
+    pub fn call(&mut self, subject: &dyn Subject, question: Question, room: usize, want: &Answer) -> Seen {
         self.text.clear();
-        self.text.extend_from_slice(text);
-        let reply = subject.call(call, &self.text, &mut self.bytes[GUARD..GUARD + room]);
-        let wrong = self.wrong(text, &reply, want);
-        let shown = if reply.code == 0 && call.writes() { room.min(reply.length as usize) } else { 0 };
+        self.text.extend_from_slice(question.text);
+        self.second.clear();
+        self.second.extend_from_slice(question.second);
+        let copy = Question { call: question.call, text: &self.text, second: &self.second };
+        let reply = subject.call(copy, &mut self.bytes[GUARD..GUARD + room]);
+        let wrong = self.wrong(question, room, &reply, want);
+        let writes = reply.code == 0 && question.call.writes();
+        let shown = if writes { room.min(reply.length as usize) } else { 0 };
         let out = self.bytes[GUARD..GUARD + shown].to_vec();
         self.restore(room, wrong.is_some());
         Seen { reply, out, wrong }
     }
 
-    fn wrong(&self, text: &[u8], reply: &Reply, want: &Answer) -> Option<&'static str> {
+    fn wrong(&self, question: Question, room: usize, reply: &Reply, want: &Answer) -> Option<&'static str> {
         let end = GUARD + want.out.len();
+        let until = GUARD + room.max(NEAR) + GUARD;
         if *reply != want.reply {
             return Some("reply");
         }
         if self.bytes[GUARD..end] != want.out {
             return Some("output");
         }
-        if self.bytes[end..] != self.clean[end..] {
+        if self.bytes[end..until] != self.clean[end..until] {
             return Some("bytes behind the output");
         }
         if self.bytes[..GUARD] != self.clean[..GUARD] {
             return Some("bytes before the buffer");
         }
-        if self.text != text {
+        if self.text != question.text || self.second != question.second {
             return Some("the text itself");
         }
         None

@@ -1,12 +1,23 @@
-//! strip, NFD and NFC as a careful Rust programmer would write them for speed:
-//! static tables of ready bytes, a scratch on the stack that nobody clears, no
+//! The calls as a careful Rust programmer would write them for speed: static
+//! tables of ready bytes, a scratch on the stack that nobody clears, no
 //! allocation. They answer as the C functions do, refusals and untouched bytes
-//! included, so that their times can stand beside the archives' times.
+//! included, so that their times can stand beside the archives' times. This file
+//! has strip, NFD and NFC; the others rest on it.
 //!
 //! Three facts of the table carry the design. Every code point with a combining
 //! class is in 0300-036F and takes two bytes. No decomposition takes more than
 //! five bytes. All tone marks have one class, so the order of marks never moves
 //! one tone past another, and strip can drop them before it orders the rest.
+
+mod compose;
+mod entry;
+mod syllable;
+mod telex;
+
+pub use compose::compose;
+pub use entry::{keying, listing};
+pub use syllable::{candidate, from_raw};
+pub use telex::telex;
 
 use crate::call::Reply;
 use crate::tables::*;
@@ -16,8 +27,9 @@ use std::ptr;
 const MOST: usize = 256;
 /// The longest NFD of 256 bytes takes 640; a whole word is stored at a time, so eight more.
 const ROOM: usize = 640 + 8;
-/// The marks of one run: 0344 x 128 makes 256, and the letter before it holds at most two.
-const RUN: usize = 256 + 2;
+/// The marks of one run: 0344 x 128 makes 256, the letter before it holds at most
+/// two, and compose adds at most two.
+const RUN: usize = 256 + 4;
 const HIGH_BITS: u64 = 0x8080_8080_8080_8080;
 
 /// Refusal 3 or 4: which of them depends on the whole text.
@@ -124,8 +136,15 @@ unsafe fn insert(start: *const u8, to: *mut u8, entry: u64, size: usize, class: 
 /// `size` bytes are readable at `from` and writable at `to`.
 #[inline(always)]
 unsafe fn hand_over(from: *const u8, to: *mut u8, size: usize) {
-    if size > 16 {
+    if size > 32 {
         ptr::copy_nonoverlapping(from, to, size);
+    } else if size > 16 {
+        let (first, last) = (
+            ptr::read_unaligned(from as *const u128),
+            ptr::read_unaligned(from.add(size - 16) as *const u128),
+        );
+        ptr::write_unaligned(to as *mut u128, first);
+        ptr::write_unaligned(to.add(size - 16) as *mut u128, last);
     } else if size >= 8 {
         let (first, last) =
             (ptr::read_unaligned(from as *const u64), ptr::read_unaligned(from.add(size - 8) as *const u64));
@@ -255,52 +274,86 @@ pub fn strip(text: &[u8], out: &mut [u8]) -> Reply {
     if text.len() > MOST {
         return Reply::refusal(2);
     }
-    let mut scratch = MaybeUninit::<[u8; ROOM]>::uninit();
-    let start = scratch.as_mut_ptr() as *mut u8;
-    // Safety: a code point of two or three bytes writes at most five, so `to` stays
-    // within 640 of `start`, with eight bytes of slack for a whole word.
+    let mut scratch = Scratch::<ROOM>::new();
+    let start = scratch.start();
+    // Safety: the scratch has the room that strip_on needs.
     unsafe {
-        let end = text.as_ptr().add(text.len());
-        ptr::write_unaligned(start as *mut u64, front.bytes.to_le());
-        let (mut from, mut to) = (text.as_ptr().add(front.at), start.add(front.size));
-        let (mut tone, mut last) = (front.tone, front.last);
-        while from < end {
-            let run = copy_ascii(from, end, to);
-            from = from.add(run);
-            to = to.add(run);
-            if run > 0 {
-                last = 0;
-                if run == 8 || from == end || *from < 0x80 {
-                    continue;
-                }
-            }
-            let seen = look(&STRIP_LOW, &STRIP_HIGH, from, end);
-            if seen.entry == 0 {
-                return refuse(text);
-            }
-            from = from.add(seen.size);
-            let size = (seen.entry >> 40 & 7) as usize;
-            let class = (seen.entry >> 56) as u8;
-            let mark = (seen.entry >> 48) as u8;
-            if mark != 0 {
-                tone = mark;
-            }
-            if !(seen.mark && class < last) || (class == 0 && size != 0) {
-                ptr::write_unaligned(to as *mut u64, seen.entry.to_le());
-                last = class;
-            } else if size != 0 {
-                insert(start, to, seen.entry, size, class);
-            }
-            to = to.add(size);
-        }
-        let size = to.offset_from(start) as usize;
-        if size > out.len() {
+        let Some(stripped) = strip_on(text, &front, start) else { return refuse(text) };
+        if stripped.size > out.len() {
             return Reply::refusal(7);
         }
-        let tone = settled(tone, std::slice::from_raw_parts(start, size));
-        hand_over(start, out.as_mut_ptr(), size);
-        Reply { length: size as u64, tone, ..Reply::default() }
+        let tone = settled(stripped.mark, stripped.bytes);
+        hand_over(start, out.as_mut_ptr(), stripped.size);
+        Reply { length: stripped.size as u64, tone, ..Reply::default() }
     }
+}
+
+/// Bytes on the stack that nobody clears.
+struct Scratch<const SIZE: usize>(MaybeUninit<[u8; SIZE]>);
+
+impl<const SIZE: usize> Scratch<SIZE> {
+    #[inline(always)]
+    fn new() -> Self {
+        Scratch(MaybeUninit::uninit())
+    }
+
+    #[inline(always)]
+    fn start(&mut self) -> *mut u8 {
+        self.0.as_mut_ptr() as *mut u8
+    }
+}
+
+/// A text without its tone marks, and the last of them (0: none).
+struct Stripped<'a> {
+    bytes: &'a [u8],
+    size: usize,
+    mark: u8,
+}
+
+/// Writes what `front` answered, and strips the rest of the text behind it.
+/// Nothing for a text that is refused.
+///
+/// # Safety
+/// The text has at most MOST bytes. ROOM bytes may be written at `start`: a code
+/// point of two or three bytes writes at most five, so the answer stays within
+/// 640, with eight bytes of slack for a whole word.
+#[inline(always)]
+unsafe fn strip_on<'a>(text: &[u8], front: &Front, start: *mut u8) -> Option<Stripped<'a>> {
+    let end = text.as_ptr().add(text.len());
+    ptr::write_unaligned(start as *mut u64, front.bytes.to_le());
+    let (mut from, mut to) = (text.as_ptr().add(front.at), start.add(front.size));
+    let (mut tone, mut last) = (front.tone, front.last);
+    while from < end {
+        let run = copy_ascii(from, end, to);
+        from = from.add(run);
+        to = to.add(run);
+        if run > 0 {
+            last = 0;
+            if run == 8 || from == end || *from < 0x80 {
+                continue;
+            }
+        }
+        let seen = look(&STRIP_LOW, &STRIP_HIGH, from, end);
+        if seen.entry == 0 {
+            return None;
+        }
+        from = from.add(seen.size);
+        let size = (seen.entry >> 40 & 7) as usize;
+        let class = (seen.entry >> 56) as u8;
+        let mark = (seen.entry >> 48) as u8;
+        if mark != 0 {
+            tone = mark;
+        }
+        if !(seen.mark && class < last) || (class == 0 && size != 0) {
+            ptr::write_unaligned(to as *mut u64, seen.entry.to_le());
+            last = class;
+        } else if size != 0 {
+            insert(start, to, seen.entry, size, class);
+        }
+        to = to.add(size);
+    }
+    let size = to.offset_from(start) as usize;
+    Some(Stripped { bytes: std::slice::from_raw_parts(start, size), size, mark: tone })
 }
 
 /// The canonical decomposition.
@@ -317,8 +370,8 @@ pub fn nfd(text: &[u8], out: &mut [u8]) -> Reply {
     if text.len() > MOST {
         return Reply::refusal(2);
     }
-    let mut scratch = MaybeUninit::<[u8; ROOM]>::uninit();
-    let start = scratch.as_mut_ptr() as *mut u8;
+    let mut scratch = Scratch::<ROOM>::new();
+    let start = scratch.start();
     // Safety: as in strip.
     unsafe {
         let end = text.as_ptr().add(text.len());
@@ -595,43 +648,56 @@ pub fn nfc(text: &[u8], out: &mut [u8]) -> Reply {
     if text.len() > MOST {
         return Reply::refusal(2);
     }
-    let mut scratch = MaybeUninit::<[u8; ROOM]>::uninit();
-    let start = scratch.as_mut_ptr() as *mut u8;
+    let mut scratch = Scratch::<ROOM>::new();
+    let start = scratch.start();
     // Safety: only 0344 grows, from two bytes to four; the rest as in strip.
     unsafe {
         let (begin, end) = (text.as_ptr(), text.as_ptr().add(text.len()));
-        let Some(mut from) = first_mark(begin, end) else { return refuse(text) };
+        let Some(from) = first_mark(begin, end) else { return refuse(text) };
         // A text of the table without marks is its own NFC.
         if from == end {
             return answer(begin, end, out);
         }
-        let kept = from.offset_from(begin) as usize;
-        hand_over(begin, start, kept);
-        let mut to = start.add(kept);
-        while from < end {
-            let run = copy_ascii(from, end, to);
-            from = from.add(run);
-            to = to.add(run);
-            if run > 0 && (run == 8 || from == end || *from < 0x80) {
-                continue;
-            }
-            let Some(mark) = mark_at(from, end) else {
-                let seen = look(&NFD_LOW, &NFD_HIGH, from, end);
-                if seen.entry == 0 {
-                    return refuse(text);
-                }
-                ptr::copy_nonoverlapping(from, to, seen.size);
-                from = from.add(seen.size);
-                to = to.add(seen.size);
-                continue;
-            };
-            (from, to) = match one_mark(mark, from, end, start, to) {
-                Some(to) => (from.add(2), to),
-                None => compose_run(from, end, start, to),
-            };
+        match nfc_on(begin, from, end, start) {
+            Some(to) => answer(start, to, out),
+            None => refuse(text),
         }
-        answer(start, to, out)
     }
+}
+
+/// Writes the text before `from`, which has no mark, and composes the rest behind
+/// it. Hands back where the answer ends, or nothing for a text that is refused.
+///
+/// # Safety
+/// The answer has room at `start`, with eight bytes of slack.
+#[inline(always)]
+unsafe fn nfc_on(begin: *const u8, from: *const u8, end: *const u8, start: *mut u8) -> Option<*mut u8> {
+    let kept = from.offset_from(begin) as usize;
+    hand_over(begin, start, kept);
+    let (mut from, mut to) = (from, start.add(kept));
+    while from < end {
+        let run = copy_ascii(from, end, to);
+        from = from.add(run);
+        to = to.add(run);
+        if run > 0 && (run == 8 || from == end || *from < 0x80) {
+            continue;
+        }
+        let Some(mark) = mark_at(from, end) else {
+            let seen = look(&NFD_LOW, &NFD_HIGH, from, end);
+            if seen.entry == 0 {
+                return None;
+            }
+            ptr::copy_nonoverlapping(from, to, seen.size);
+            from = from.add(seen.size);
+            to = to.add(seen.size);
+            continue;
+        };
+        (from, to) = match one_mark(mark, from, end, start, to) {
+            Some(to) => (from.add(2), to),
+            None => compose_run(from, end, start, to),
+        };
+    }
+    Some(to)
 }
 
 /// A single mark that stands in order behind its starter: the starter absorbs
@@ -660,4 +726,80 @@ unsafe fn one_mark(
 #[inline(always)]
 fn mark_bytes(mark: u8) -> u16 {
     u16::from_le_bytes([0xCC | mark >> 6, 0x80 | mark & 0x3F])
+}
+
+/// The refusal of a text, or none.
+#[inline(always)]
+fn refusal_of(text: &[u8]) -> Option<Reply> {
+    if text.len() <= 8 && word_of(text) & HIGH_BITS == 0 {
+        return None;
+    }
+    refusal_of_any(text)
+}
+
+#[inline(never)]
+fn refusal_of_any(text: &[u8]) -> Option<Reply> {
+    if text.len() > MOST {
+        return Some(Reply::refusal(2));
+    }
+    if text.is_ascii() || in_table(text) {
+        return None;
+    }
+    Some(refuse(text))
+}
+
+/// Up to eight bytes in a register, the first one lowest.
+#[inline(always)]
+fn word_of(text: &[u8]) -> u64 {
+    let size = text.len();
+    debug_assert!(size <= 8);
+    if size >= 4 {
+        let first = u32::from_le_bytes(text[..4].try_into().unwrap());
+        let last = u32::from_le_bytes(text[size - 4..].try_into().unwrap());
+        return first as u64 | (last as u64) << (8 * (size - 4));
+    }
+    if size == 0 {
+        return 0;
+    }
+    let (middle, last) = (size / 2, size - 1);
+    text[0] as u64 | (text[middle] as u64) << (8 * middle) | (text[last] as u64) << (8 * last)
+}
+
+/// Whether a text is well formed and of the table.
+#[inline(never)]
+fn in_table(text: &[u8]) -> bool {
+    let range = text.as_ptr_range();
+    let mut from = range.start;
+    // Safety: `from` stays within the text, and `look` gives the size of what it found there.
+    unsafe {
+        while from < range.end {
+            if *from < 0x80 {
+                from = from.add(1);
+                continue;
+            }
+            let seen = look(&NFD_LOW, &NFD_HIGH, from, range.end);
+            if seen.entry == 0 {
+                return false;
+            }
+            from = from.add(seen.size);
+        }
+    }
+    true
+}
+
+/// Writes the `size` bytes of a word, at most sixteen, for which `out` has room.
+#[inline(always)]
+fn put_word(word: u128, size: usize, out: &mut [u8]) {
+    let out = &mut out[..size];
+    if size >= 8 {
+        out[..8].copy_from_slice(&(word as u64).to_le_bytes());
+        out[size - 8..].copy_from_slice(&((word >> (8 * size - 64)) as u64).to_le_bytes());
+    } else if size >= 4 {
+        out[..4].copy_from_slice(&(word as u32).to_le_bytes());
+        out[size - 4..].copy_from_slice(&((word >> (8 * size - 32)) as u32).to_le_bytes());
+    } else {
+        for (at, byte) in out.iter_mut().enumerate() {
+            *byte = (word >> (8 * at)) as u8;
+        }
+    }
 }

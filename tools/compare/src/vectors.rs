@@ -1,6 +1,8 @@
 //! Fixed lists of the Rust's answers, for tests that have no Rust at hand.
 
-use crate::call::{Call, NAMES};
+mod of_khiin;
+
+use crate::call::{Call, Question, NAMES};
 use crate::inputs::{self, Maker, Style, STYLES};
 use crate::oracle::{self, Answer};
 use crate::record::Record;
@@ -21,58 +23,73 @@ const KEYS: [Call; 6] = [
     Call::Keys { form: 1, kind: 2 },
 ];
 
-/// One list for each call.
+/// One list for each call but the listing, which nothing replays.
+const LISTS: usize = NAMES.len() - 1;
+
 struct Lists {
-    bytes: [Vec<u8>; 7],
-    counts: [usize; 7],
+    bytes: [Vec<u8>; LISTS],
+    counts: [usize; LISTS],
 }
 
 impl Lists {
-    fn add(&mut self, call: Call, text: &[u8], room: usize, answer: &Answer) {
-        let number = call.number();
-        Record::new(call, text, room, answer).write(&mut self.bytes[number]);
+    fn add(&mut self, question: Question, room: usize, answer: &Answer) {
+        let number = question.call.number();
+        Record::new(question, room, answer).write(&mut self.bytes[number]);
         self.counts[number] += 1;
     }
 
     /// One record, the buffer exactly full.
     fn full(&mut self, call: Call, text: &[u8]) {
-        let answer = oracle::answer(call, text);
+        self.exact(call.of(text));
+    }
+
+    fn exact(&mut self, question: Question) {
+        let answer = oracle::answer(question);
         // An answer that the Rust draws by chance is no answer to keep.
         if !answer.chance {
-            self.add(call, text, answer.out.len(), &answer);
+            self.add(question, answer.out.len(), &answer);
         }
     }
 
     /// One record with room to spare, one exactly full, one a byte short.
     fn around(&mut self, call: Call, text: &[u8]) {
-        let answer = oracle::answer(call, text);
+        self.with_rooms(call.of(text));
+    }
+
+    fn with_rooms(&mut self, question: Question) {
+        let answer = oracle::answer(question);
         if answer.chance {
             return;
         }
         let size = answer.out.len();
-        if call.writes() {
-            self.add(call, text, size + 7, &answer);
+        if question.call.writes() {
+            self.add(question, size + 7, &answer);
         }
-        self.add(call, text, size, &answer);
+        self.add(question, size, &answer);
         if size > 0 {
-            self.add(call, text, size - 1, &answer);
+            self.add(question, size - 1, &answer);
         }
     }
 
     /// A text that no buffer helps, or that has one of the right size.
     fn edge(&mut self, call: Call, text: &[u8]) {
-        let answer = oracle::answer(call, text);
+        self.bounded(call.of(text));
+    }
+
+    fn bounded(&mut self, question: Question) {
+        let answer = oracle::answer(question);
         if answer.chance {
             return;
         }
-        let room = if answer.reply.code == 0 || !call.writes() { answer.out.len() } else { 24 };
-        self.add(call, text, room, &answer);
+        let helps = answer.reply.code == 0 || !question.call.writes();
+        let room = if helps { answer.out.len() } else { 24 };
+        self.add(question, room, &answer);
     }
 }
 
 /// Writes NAME.bin for each call.
 pub fn write(folder: &Path) -> io::Result<()> {
-    let mut lists = Lists { bytes: Default::default(), counts: [0; 7] };
+    let mut lists = Lists { bytes: Default::default(), counts: [0; LISTS] };
     let maker = &mut Maker::new(SEED);
     for call in [Call::Strip, Call::Nfd, Call::Nfc] {
         text_call(&mut lists, call, maker);
@@ -82,6 +99,7 @@ pub fn write(folder: &Path) -> io::Result<()> {
     }
     strip_khin(&mut lists, maker);
     keys(&mut lists, maker);
+    of_khiin::add(&mut lists, &mut Maker::new(SEED ^ 1));
     fs::create_dir_all(folder)?;
     for (name, (bytes, count)) in NAMES.iter().zip(lists.bytes.iter().zip(lists.counts)) {
         fs::write(folder.join(name).with_extension("bin"), bytes)?;

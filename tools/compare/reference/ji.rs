@@ -7,6 +7,7 @@ pub mod lomaji;
 pub mod tone;
 pub mod unicode;
 
+pub use lomaji::{poj_syl_to_key_sequences, poj_syl_to_key_sequences_oo};
 pub use tone::Tone;
 // The comparison asks the same normalisation crate that the modules use.
 pub use unicode_normalization;
