@@ -17,10 +17,10 @@ extern "C" {
 typedef struct {
     uint64_t code;     /* 0, or why the call is refused */
     uint64_t length;   /* bytes of output; of the tone letter: 1, or 0 where there is none */
-    uint64_t count;
-    uint64_t body;
+    uint64_t count;    /* how many there are of which the call gives one */
+    uint64_t body;     /* bytes of a record's body, with which its raw input begins */
     uint64_t tone;     /* 0 (None) to 9 */
-    uint64_t khin;
+    uint64_t khin;     /* 0 or 1 */
     uint64_t position; /* in bytes */
 } rf_reply;
 
@@ -43,6 +43,17 @@ rf_reply rf_strip(const uint8_t *text, size_t text_len, uint8_t *out, size_t out
 
 /* Where the tone letter of the text, as it is given, stands: length 1 and position, or length 0. Refuses with 2, 3, 4. */
 rf_reply rf_tone_letter(const uint8_t *text, size_t text_len);
+
+/* The bytes that the raw input of rf_from_raw and of rf_candidate can take at most (256 keys; the text U+01D9, 128 times). */
+#define RF_FROM_RAW_ROOM 256
+#define RF_CANDIDATE_ROOM 641
+
+/* The record of raw keys, which have to be ASCII: the raw input in `out`, length, body, tone, khin. Refuses with 2, 4, 7. */
+rf_reply rf_from_raw(const uint8_t *keys, size_t keys_len, uint8_t *out, size_t out_len);
+
+/* One of the records that a composed syllable may be typed as, by its position, counted from 0: the raw input in `out`, length, body, tone, khin,
+ * and as count how many there are, 1 or 2. Refuses with 2, 3, 4, 6, 7. */
+rf_reply rf_candidate(const uint8_t *text, size_t text_len, uint64_t position, uint8_t *out, size_t out_len);
 
 #ifdef __cplusplus
 }
