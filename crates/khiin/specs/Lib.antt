@@ -1,5 +1,9 @@
 pub mod Syllable
 pub mod Records
 pub mod KeySequence
+pub mod Choices
 pub mod Listing
+pub mod Lines
 pub mod Converter
+pub mod Telex
+pub mod Compose

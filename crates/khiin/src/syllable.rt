@@ -1,4 +1,5 @@
 // Syllables.
+pub mod compose;
 pub mod from_composed;
 pub mod from_raw;
 
