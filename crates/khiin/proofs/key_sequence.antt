@@ -1,0 +1,10 @@
+pub mod Product
+pub mod Splitting
+pub mod Combining
+pub mod Laying
+pub mod Backward
+pub mod Writing
+pub mod Forms
+pub mod Rows
+pub mod Filling
+pub mod Calling
