@@ -9,7 +9,11 @@ use ji::lomaji::strip;
 use ji::lomaji::strip::Strip;
 use ji::lomaji::tone_letter;
 use ji::lomaji::tone_letter::ToneLetter;
+use ji::reply::Refusal;
 use ji::tone;
+use khiin::converter;
+use khiin::key_sequence;
+use khiin::syllable::compose;
 use khiin::syllable::from_composed;
 use khiin::syllable::from_raw;
 ghost use mathlib.Core.Path.{_≡_};
@@ -18,6 +22,7 @@ ghost use Rattle.ji.specs.Unicode.{unicode16};
 ghost use Rattle.ji.specs.Lomaji.Strip.{stripCall};
 ghost use Rattle.ji.specs.Lomaji.ToneLetter.{toneLetterCall};
 ghost use Rattle.khiin.specs.Syllable.{fromRawCall, candidateCall};
+ghost use Rattle.robinflint.specs.Arguments.{composeNumbered, telexNumbered, keyingNumbered};
 ghost use Rattle.robinflint.specs.Reply.{replyOf};
 
 // The text without its tone marks, in NFD, and its tone. Refuses with 2, 3, 4, 7.
@@ -69,4 +74,61 @@ pub extern "C" fn rf_candidate(text: &[u8], position: u64, out: &mut [u8]) -> Re
     ensures { λ r. ⌜ replyOf r (now (out .exit)) ≡ candidateCall unicode16 (now (text .entry)) position (now (out .entry)) ⌝ }
 {
     reply::syllable(from_composed::from_composed(text, position, out))
+}
+
+// What a syllable record is written as. Refuses with 1, 2, 3, 4, 7.
+#[no_mangle]
+pub extern "C" fn rf_compose(raw: &[u8], body: &[u8], tone: u64, khin: u64, out: &mut [u8]) -> Reply
+    ensures { λ r. ⌜ replyOf r (now (out .exit)) ≡ composeNumbered (now (raw .entry)) (now (body .entry)) tone khin (now (out .entry)) ⌝ }
+{
+    if 9 < tone {
+        return refuse(Refusal::Argument);
+    }
+    if 1 < khin {
+        return refuse(Refusal::Argument);
+    }
+    reply::text(compose::compose(
+        raw,
+        body,
+        arguments::tone_of(tone),
+        arguments::khin_of(khin),
+        out,
+    ))
+}
+
+// What a text becomes when a key is typed. `keys` are those of the tones 2 3 5 6 7 8 9. Refuses with 1, 2, 3, 4, 7.
+#[no_mangle]
+pub extern "C" fn rf_telex(
+    text: &[u8],
+    key: u64,
+    mode: u64,
+    keys: &[u8; 7],
+    out: &mut [u8],
+) -> Reply
+    ensures { λ r. ⌜ replyOf r (now (out .exit)) ≡ telexNumbered (now (text .entry)) key mode (now (keys .entry)) (now (out .entry)) ⌝ }
+{
+    if 1 < mode {
+        return refuse(Refusal::Argument);
+    }
+    if 0x7E < key {
+        return refuse(Refusal::Argument);
+    }
+    reply::text(converter::convert_to_telex(
+        text,
+        key as u8,
+        arguments::mode_of(mode),
+        arguments::keys_of(keys),
+        out,
+    ))
+}
+
+// The keying at the position of an entry's list of a kind, and how many the list has. Refuses with 1, 2, 3, 4, 5, 6, 7.
+#[no_mangle]
+pub extern "C" fn rf_keying(entry: &[u8], kind: u64, position: u64, out: &mut [u8]) -> Reply
+    ensures { λ r. ⌜ replyOf r (now (out .exit)) ≡ keyingNumbered (now (entry .entry)) kind position (now (out .entry)) ⌝ }
+{
+    if 2 < kind {
+        return refuse(Refusal::Argument);
+    }
+    reply::keying(key_sequence::keying_at(entry, arguments::kind_of(kind), position, out))
 }

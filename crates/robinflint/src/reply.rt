@@ -4,11 +4,13 @@ use ji::reply;
 use ji::reply::Refusal;
 use ji::reply::TextAnswer;
 use ji::tone;
+use khiin::key_sequence::Keying;
 use khiin::syllable::Recorded;
 ghost use mathlib.Core.Path.{_≡_};
 ghost use mathlib.Core.List.{List, []};
 ghost use Prim.Native.Nat.{ℕ};
 ghost use Rattle.ji.specs.Reply.{refused, found, textReply};
+ghost use Rattle.khiin.specs.KeySequence.{keyingReply};
 ghost use Rattle.khiin.specs.Syllable.{recordReply};
 ghost use Rattle.robinflint.specs.Reply.{replyOf};
 
@@ -90,6 +92,27 @@ pub fn syllable(answer: Recorded) -> Reply
                 body: body.0 as u64,
                 tone: tone::number(tone) as u64,
                 khin: khin::number(khin),
+                position: 0,
+            }
+        }
+    }
+}
+
+// A keying in the lent buffer, and how many its list has.
+pub fn keying(answer: Keying) -> Reply
+    ensures { λ r. ⌜ ((buffer : List ℕ) → replyOf r buffer ≡ keyingReply answer buffer) ⌝ }
+{
+    match answer {
+        Keying::Refused(why) => refuse(why),
+        Keying::Done(result) => {
+            let len = result.len;
+            Reply {
+                code: 0,
+                length: len.0 as u64,
+                count: result.count,
+                body: 0,
+                tone: 0,
+                khin: 0,
                 position: 0,
             }
         }
