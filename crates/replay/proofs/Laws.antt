@@ -12,7 +12,7 @@ use Rattle.ji.specs.Reply as ji
 use Rattle.robinflint.specs.declared.reply.Reply.{Reply}
 use Rattle.robinflint.specs.Reply.{replyOf}
 use Rattle.replay.specs.declared.record.Header.{Header}
-use Rattle.replay.specs.Record.{replayable}
+use Rattle.replay.specs.Record.{known, replayable}
 use Rattle.replay.specs.Calls.{answerOf}
 use Rattle.replay.specs.Replay.{Agrees}
 use Rattle.replay.specs.Expected.{Says, untouched, written, said, sameNumbers, AsSaid}
@@ -118,29 +118,31 @@ rest-decides h wanted r buffer b n same fits front s =
       (λ p. says .1 (parts h wanted r buffer p .rest)),
     )
 
--- what `is_replayable` tests
+-- what `is_replayable` tests of the lengths
 pub record Room (h : Header) : Type 0 where
-  pub known : h .call ≤ 6
-  pub input : h .input ≤ 2048
-  pub lent : h .lent ≤ 2048
-  pub wanted : h .wanted ≤ 2048
+  pub input : h .input ≤ 3072
+  pub other : h .other ≤ 3072
+  pub lent : h .lent ≤ 3072
+  pub wanted : h .wanted ≤ 3072
 
 pub room : (h : Header) → replayable h ≡ true → Room h
 room h e =
     let s4 = split _ _ e in
     let s3 = split _ _ (s4 .0) in
     let s2 = split _ _ (s3 .0) in
+    let s1 = split (known (h .call)) _ (s2 .0) in
     record {
-      known = leb-true (h .call) 6 (s2 .0);
-      input = leb-true (h .input) 2048 (s2 .1);
-      lent = leb-true (h .lent) 2048 (s3 .1);
-      wanted = leb-true (h .wanted) 2048 (s4 .1);
+      input = leb-true (h .input) 3072 (s1 .1);
+      other = leb-true (h .other) 3072 (s2 .1);
+      lent = leb-true (h .lent) 3072 (s3 .1);
+      wanted = leb-true (h .wanted) 3072 (s4 .1);
     }
 
 -- the verdict on the parts of a body and on the buffer as it is, as one on the body
-pub agrees-by : (h : Header) (body wanted buffer : List ℕ) (r : ji.Reply) (b : Bool) → wanted ≡ take (h .wanted) (drop (h .input) body)
-    → buffer ≡ untouched 2112
-    → r ≡ answerOf h (take (h .input) body) buffer
+pub agrees-by : (h : Header) (body other wanted buffer : List ℕ) (r : ji.Reply) (b : Bool) → other ≡ take (h .other) (drop (h .input) body)
+    → wanted ≡ take (h .wanted) (drop (h .input + h .other) body)
+    → buffer ≡ untouched 3136
+    → r ≡ answerOf h (take (h .input) body) other buffer
     → Says b (AsSaid h wanted r)
     → Says b (Agrees h body)
-agrees-by h body wanted buffer r b ew eb er s = rw (← ew, ← eb, ← er) s
+agrees-by h body other wanted buffer r b eo ew eb er s = rw (← eo, ← ew, ← eb, ← er) s

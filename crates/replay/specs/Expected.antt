@@ -3,7 +3,7 @@ use mathlib.Core.Path.{_≡_}
 use mathlib.Core.Bool.{Bool, true, _&&_, _||_, cond}
 use mathlib.Core.List.{List, _++_}
 use Prim.Native.Nat.{ℕ, _-_}
-use lib.Dec.{eqb}
+use lib.Dec.{leb, eqb}
 use lib.ListN.{length, replicate}
 use Rattle.ji.specs.Reply.{Reply}
 use Rattle.replay.specs.declared.record.Header.{Header}
@@ -16,9 +16,9 @@ Says b P = (b ≡ true → P) × (P → b ≡ true)
 unfoldable pub untouched : ℕ → List ℕ
 untouched n = replicate n 0xA5
 
--- the calls to which a buffer is lent
+-- the calls to which a buffer is lent: all but 1, 4 and 5
 abbrev pub lends : ℕ → Bool
-lends call = eqb call 0 || eqb call 2 || eqb call 3 || eqb call 6
+lends call = eqb call 0 || eqb call 2 || eqb call 3 || leb 6 call
 
 -- how many bytes the call is to write: as many as its length says, and none where it refuses or has no buffer
 abbrev pub written : Header → ℕ
@@ -30,8 +30,8 @@ said h buffer =
     record {
       code = h .code;
       length = h .length;
-      count = 0;
-      body = 0;
+      count = h .count;
+      body = h .body;
       tone = h .tone;
       khin = h .khin;
       position = h .position;

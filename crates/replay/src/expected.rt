@@ -7,11 +7,11 @@ ghost use lib.ListN.{length};
 ghost use Rattle.robinflint.specs.Reply.{replyOf};
 ghost use Rattle.replay.specs.Expected.{Says, untouched, written, said, sameNumbers, AsSaid};
 
-// A buffer before a call. A call is lent at most 2,048 bytes, so there are some behind them.
-pub(crate) fn fresh_buffer() -> [u8; 2112]
-    ensures { λ r. ⌜ (r ≡ untouched 2112) × (2112 ≡ length r) ⌝ }
+// A buffer before a call. A call is lent at most 3,072 bytes, so there are some behind them.
+pub(crate) fn fresh_buffer() -> [u8; 3136]
+    ensures { λ r. ⌜ (r ≡ untouched 3136) × (3136 ≡ length r) ⌝ }
 {
-    [0xA5; 2112]
+    [0xA5; 3136]
 }
 
 // Whether no byte has changed since `fresh_buffer`.
@@ -33,7 +33,7 @@ pub(crate) fn bytes_written(h: Header) -> usize
     ensures { λ r. ⌜ r ≡ written h ⌝ }
 {
     let call = h.call;
-    if (h.code == 0) & ((call == 0) | (call == 2) | (call == 3) | (call == 6)) {
+    if (h.code == 0) & ((call == 0) | (call == 2) | (call == 3) | (6 <= call)) {
         h.length
     } else {
         0
@@ -46,8 +46,8 @@ pub(crate) fn has_numbers(reply: Reply, h: Header) -> bool
 {
     (reply.code == h.code as u64)
         & (reply.length == h.length as u64)
-        & (reply.count == 0)
-        & (reply.body == 0)
+        & (reply.count == h.count)
+        & (reply.body == h.body as u64)
         & (reply.tone == h.tone as u64)
         & (reply.khin == h.khin as u64)
         & (reply.position == h.position as u64)

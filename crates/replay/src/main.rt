@@ -19,14 +19,15 @@ ghost use Rattle.replay.specs.Replay.{Agrees};
 
 // Whether the call of a record replies as the record says. `body` is the record behind its header.
 fn agrees(h: Header, body: &[u8]) -> bool
-    requires { ⌜ (replayable h ≡ true) × (h .input + h .wanted ≤ length (now body)) ⌝ }
+    requires { ⌜ (replayable h ≡ true) × (h .input + h .other + h .wanted ≤ length (now body)) ⌝ }
     ensures { λ r. ⌜ Says r (Agrees h (now (body .entry))) ⌝ }
 {
     let input = h.input;
-    let end = input + h.wanted;
+    let middle = input + h.other;
+    let end = middle + h.wanted;
     let mut buffer = fresh_buffer();
-    let reply = answer(h, &body[..input], &mut buffer);
-    is_as_said(h, &body[input..end], reply, &buffer)
+    let reply = answer(h, &body[..input], &body[input..middle], &mut buffer);
+    is_as_said(h, &body[middle..end], reply, &buffer)
 }
 
 fn main() {

@@ -20,14 +20,14 @@ enum Outcome {
 
 // By the call's number, how many records there were, and how many of them differed; and 1 where the list did not come to its end.
 struct Tally {
-    records: [u64; 7],
-    different: [u64; 7],
+    records: [u64; 12],
+    different: [u64; 12],
     malformed: u64,
 }
 
 // Reads what stands behind a header, and replays the record.
 fn replay_body(h: Header, body: &mut [u8]) -> Outcome
-    requires { ⌜ (replayable h ≡ true) × (h .input + h .wanted ≡ length (now body)) ⌝ }
+    requires { ⌜ (replayable h ≡ true) × (h .input + h .other + h .wanted ≡ length (now body)) ⌝ }
 {
     let size = body.len();
     if io::read_full(0, body) < size {
@@ -42,20 +42,20 @@ fn replay_body(h: Header, body: &mut [u8]) -> Outcome
 
 // Reads one record, and replays it.
 fn replay_one() -> Outcome {
-    let mut header = [0u8; 16];
+    let mut header = [0u8; 36];
     let got = io::read_full(0, &mut header);
     if got == 0 {
         return Outcome::End;
     }
-    if got < 16 {
+    if got < 36 {
         return Outcome::Malformed;
     }
     let h = record::read(&header);
     if !record::is_replayable(h) {
         return Outcome::Malformed;
     }
-    let size = h.input + h.wanted;
-    let mut body = io::buffer();
+    let size = h.input + h.other + h.wanted;
+    let mut body = [0u8; 9216];
     replay_body(h, &mut body[..size])
 }
 
@@ -67,7 +67,7 @@ fn one_more(n: u64) -> u64 {
 // Counts a record, and a difference.
 fn counted(mut t: Tally, call: u8, difference: bool) -> Tally {
     let i = call as usize;
-    if i < 7 {
+    if i < 12 {
         t.records[i] = one_more(t.records[i]);
         if difference {
             t.different[i] = one_more(t.different[i]);
@@ -80,8 +80,8 @@ fn counted(mut t: Tally, call: u8, difference: bool) -> Tally {
 
 fn replay_all() -> Tally {
     let mut t = Tally {
-        records: [0; 7],
-        different: [0; 7],
+        records: [0; 12],
+        different: [0; 12],
         malformed: 0,
     };
     // A proved loop has to end, and nothing says that the input does. So the loop counts its turns down, from a number that no run uses up.
@@ -119,6 +119,11 @@ pub(crate) fn run() {
     print_line(b"strip_khin", all[4], different[4]);
     print_line(b"has_tone_letter", all[5], different[5]);
     print_line(b"keys", all[6], different[6]);
+    print_line(b"from_raw", all[7], different[7]);
+    print_line(b"compose", all[8], different[8]);
+    print_line(b"candidate", all[9], different[9]);
+    print_line(b"keying", all[10], different[10]);
+    print_line(b"telex", all[11], different[11]);
     io::write_all(1, b"malformed ");
     io::print_decimal(1, t.malformed);
     io::write_all(1, b"\n");

@@ -35,22 +35,22 @@ returns-3 c = search needs
 good : (d : tie.Else3) → replayable (d .before .before .read .result) ≡ true
 good d = sym (d .before .is-replayable .ensures) ∙ not-false _ (d .if3 .left)
 
-small : (d : tie.Else3) → d .before .before .read .result .input + d .before .before .read .result .wanted ≤ 4096
+small : (d : tie.Else3) → d .before .before .read .result .input + d .before .before .read .result .other + d .before .before .read .result .wanted ≤ 9216
 small d = let r = room (d .before .before .read .result) (good d) in omega arith
 
 add-size : tie.Need-add-size
 add-size c = omega (arith, small (c .before))
 
-buffer-requires : tie.Need-buffer-requires
-buffer-requires c κs = search needs
+add-size-2 : tie.Need-add-size-2
+add-size-2 c = omega (arith, small (c .before .before))
 
 array-borrow-prefix-body : tie.Need-array-borrow-prefix-body
-array-borrow-prefix-body c = omega (arith, small (c .before .before), c .buffer .ensures)
+array-borrow-prefix-body c = small (c .before .before)
 
 slice-aggregate-replay-body : tie.Need-slice-aggregate-replay-body
 slice-aggregate-replay-body c =
     let h = c .before .before .before .before .before .read .result in
-    sym (length-take-le (h .input + h .wanted) (c .before .buffer .result) (omega (arith, small (c .before .before .before), c .before .buffer .ensures)))
+    sym (length-take-le (h .input + h .other + h .wanted) _ (omega (arith, small (c .before .before .before))))
 
 replay-body-requires : tie.Need-replay-body-requires
 replay-body-requires c κs = (good (c .before .before .before), slice-aggregate-replay-body c)
@@ -70,7 +70,7 @@ replay-one-spec =
     is-replayable-requires
     returns-3
     add-size
-    buffer-requires
+    add-size-2
     array-borrow-prefix-body
     slice-aggregate-replay-body
     replay-body-requires
