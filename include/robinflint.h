@@ -27,7 +27,7 @@ typedef struct {
 /* The refusals, in the order in which they are checked. */
 enum {
     RF_ARGUMENT = 1,      /* a number of the caller's is out of its range */
-    RF_TOO_LONG = 2,      /* a text of more than 256 bytes */
+    RF_TOO_LONG = 2,      /* a text of more than 256 bytes, an entry of more than 1,024 */
     RF_ILL_FORMED = 3,    /* ill-formed UTF-8 */
     RF_OUTSIDE_TABLE = 4, /* well formed, but a code point outside the table */
     RF_PARTS = 5,         /* an entry of more than 16 parts, or a part of more than 256 bytes */
@@ -54,6 +54,25 @@ rf_reply rf_from_raw(const uint8_t *keys, size_t keys_len, uint8_t *out, size_t 
 /* One of the records that a composed syllable may be typed as, by its position, counted from 0: the raw input in `out`, length, body, tone, khin,
  * and as count how many there are, 1 or 2. Refuses with 2, 3, 4, 6, 7. */
 rf_reply rf_candidate(const uint8_t *text, size_t text_len, uint64_t position, uint8_t *out, size_t out_len);
+
+/* The bytes that the outputs of rf_compose, rf_keying and rf_telex can take at most. */
+#define RF_COMPOSE_ROOM 516
+#define RF_KEYING_ROOM 2555
+#define RF_TELEX_ROOM 639
+
+/* What a record is written as: its raw input, its body, its tone (0 to 9) and khin (0 or 1). Where the tone has a mark and the text no letter to put it
+ * on, that is the raw input as it is given. Raw input is checked before body. Refuses with 1, 2, 3, 4, 7. */
+rf_reply rf_compose(const uint8_t *raw, size_t raw_len, const uint8_t *body, size_t body_len, uint64_t tone, uint64_t khin,
+                    uint8_t *out, size_t out_len);
+
+/* One keying of a dictionary entry, whose parts a space divides: kind 0 detoned, 1 numeric, 2 telex; position counted from 0. Length, and as count how
+ * many keyings of the kind there are. An entry has at most 1,024 bytes and 16 parts of 256 bytes. Refuses with 1, 2, 3, 4, 5, 6, 7. */
+rf_reply rf_keying(const uint8_t *entry, size_t entry_len, uint64_t kind, uint64_t position, uint8_t *out, size_t out_len);
+
+/* What a text becomes when a key (20 to 7E) is typed: mode 0 numeric, 1 telex; the keys of the tones 2 3 5 6 7 8 9 (21 to 7E each), which mode 0
+ * checks and does not use. Refuses with 1, 2, 3, 4, 7. */
+rf_reply rf_telex(const uint8_t *text, size_t text_len, uint64_t key, uint64_t mode, const uint8_t tone_keys[7],
+                  uint8_t *out, size_t out_len);
 
 #ifdef __cplusplus
 }

@@ -16,6 +16,7 @@ extern "C" {
     fn wb_strip_khin(text: *const u8, text_len: usize) -> Reply;
     fn wb_has_tone_letter(text: *const u8, text_len: usize) -> Reply;
     fn wb_keys(text: *const u8, text_len: usize, form: u64, kind: u64, out: *mut u8, out_len: usize) -> Reply;
+    #[cfg(listing)]
     fn wb_listing(entry: *const u8, entry_len: usize, from: u64, out: *mut u8, out_len: usize) -> Reply;
 }
 
@@ -73,6 +74,15 @@ pub fn telex(text: &[u8], key: u64, mode: u64, tone_keys: &[u8; 7], out: &mut [u
     unsafe { rf_telex(text.as_ptr(), text.len(), key, mode, tone_keys, out.as_mut_ptr(), out.len()) }
 }
 
+/// Whether the archive has the listing.
+pub const LISTS: bool = cfg!(listing);
+
+#[cfg(not(listing))]
+pub fn listing(_: &[u8], _: u64, _: &mut [u8]) -> Reply {
+    unreachable!("the archive has no listing, and nothing asks for one")
+}
+
+#[cfg(listing)]
 #[inline(always)]
 pub fn listing(entry: &[u8], from: u64, out: &mut [u8]) -> Reply {
     unsafe { wb_listing(entry.as_ptr(), entry.len(), from, out.as_mut_ptr(), out.len()) }

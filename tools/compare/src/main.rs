@@ -33,6 +33,12 @@ const SUBJECT: &dyn Subject = &archive::Archive;
 #[cfg(not(feature = "archives"))]
 const SUBJECT: &dyn Subject = &standin::StandIn;
 
+/// Whether the side that is compared has the listing.
+#[cfg(feature = "archives")]
+const LISTS: bool = archive::LISTS;
+#[cfg(not(feature = "archives"))]
+const LISTS: bool = true;
+
 const USAGE: &str = "usage: compare compare [SEED]
        compare vectors DIR
        compare normalization FILE DIR

@@ -237,6 +237,7 @@ fn jobs() -> Vec<Job> {
             .map(|size| job("NFC of decomposed syllables", What::Nfc, &decomposed(size))),
     );
     all.extend(of_khiin());
+    all.retain(|job| crate::LISTS || !matches!(job.what, What::Listing));
     all
 }
 
