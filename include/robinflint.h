@@ -44,7 +44,7 @@ rf_reply rf_strip(const uint8_t *text, size_t text_len, uint8_t *out, size_t out
 /* Where the tone letter of the text, as it is given, stands: length 1 and position, or length 0. Refuses with 2, 3, 4. */
 rf_reply rf_tone_letter(const uint8_t *text, size_t text_len);
 
-/* The bytes that the raw input of rf_from_raw and of rf_candidate can take at most (256 keys; the text U+01D9, 128 times). */
+/* The longest raw inputs of rf_from_raw (256 keys) and, as far as is known, of rf_candidate (the text U+01D9, 128 times), in bytes. */
 #define RF_FROM_RAW_ROOM 256
 #define RF_CANDIDATE_ROOM 641
 
@@ -55,7 +55,8 @@ rf_reply rf_from_raw(const uint8_t *keys, size_t keys_len, uint8_t *out, size_t 
  * and as count how many there are, 1 or 2. Refuses with 2, 3, 4, 6, 7. */
 rf_reply rf_candidate(const uint8_t *text, size_t text_len, uint64_t position, uint8_t *out, size_t out_len);
 
-/* The bytes that the outputs of rf_compose, rf_keying and rf_telex can take at most. */
+/* The longest outputs of rf_compose, rf_keying and rf_telex that are known, in bytes: found by search and tested, not proved. A longer one would be
+ * refused with 7. */
 #define RF_COMPOSE_ROOM 516
 #define RF_KEYING_ROOM 2555
 #define RF_TELEX_ROOM 639
