@@ -1,9 +1,5 @@
 pub mod Syllable
 pub mod Records
-pub mod KeySequence
-pub mod Choices
-pub mod Listing
-pub mod Lines
 pub mod Converter
 pub mod Telex
 pub mod Compose

@@ -1,5 +1,3 @@
-// Syllables, keyings of entries and the telex step.
+// Syllables and the telex step.
 pub mod converter;
-pub mod key_sequence;
-pub mod listing;
 pub mod syllable;

@@ -15,7 +15,7 @@ use Rattle.ji.specs.declared.lomaji.khin.Khin.the-variants.{No, Yes}
 use Rattle.ji.specs.declared.lomaji.keys.Kind.{Kind}
 use Rattle.ji.specs.declared.lomaji.keys.Kind.the-variants.{Detoned, Numeric, Telex}
 use Rattle.khiin.specs.Syllable.{composeCall}
-use Rattle.khiin.specs.KeySequence.{keyingCall}
+use Rattle.khiin_entries.specs.KeySequence.{keyingCall}
 use Rattle.khiin.specs.Converter.{telexCall}
 use Rattle.khiin.specs.declared.converter.ToneKeys.{ToneKeys}
 use Rattle.khiin.specs.declared.converter.ToneMode.{ToneMode}

@@ -4,13 +4,13 @@ use ji::reply;
 use ji::reply::Refusal;
 use ji::reply::TextAnswer;
 use ji::tone;
-use khiin::key_sequence::Keying;
 use khiin::syllable::Recorded;
+use khiin_entries::key_sequence::Keying;
 ghost use mathlib.Core.Path.{_≡_};
 ghost use mathlib.Core.List.{List, []};
 ghost use Prim.Native.Nat.{ℕ};
 ghost use Rattle.ji.specs.Reply.{refused, found, textReply};
-ghost use Rattle.khiin.specs.KeySequence.{keyingReply};
+ghost use Rattle.khiin_entries.specs.KeySequence.{keyingReply};
 ghost use Rattle.khiin.specs.Syllable.{recordReply};
 ghost use Rattle.robinflint.specs.Reply.{replyOf};
 
@@ -104,12 +104,12 @@ pub fn keying(answer: Keying) -> Reply
 {
     match answer {
         Keying::Refused(why) => refuse(why),
-        Keying::Done(result) => {
-            let len = result.len;
+        Keying::Done(keying) => {
+            let len = keying.len;
             Reply {
                 code: 0,
                 length: len.0 as u64,
-                count: result.count,
+                count: keying.count,
                 body: 0,
                 tone: 0,
                 khin: 0,

@@ -7,7 +7,7 @@ use borrow.Author.Tests.{le-leb, lt-leb}
 use Rattle.ji.specs.Unicode.{unicode16}
 use Rattle.ji.specs.Reply.{refused, pickReply}
 use Rattle.ji.specs.declared.reply.Refusal.the-variants.{Argument}
-use Rattle.khiin.specs.KeySequence.{keyingCall}
+use Rattle.khiin_entries.specs.KeySequence.{keyingCall}
 use Rattle.robinflint.specs.Arguments.{kindOf, keyingNumbered}
 use borrow.Author.Needs.{needs}
 use native.Mathlib.Omega.{arith}

@@ -1,6 +1,6 @@
 use mathlib.Core.Path.{sym, ap, _∙_}
-use Rattle.khiin.specs.KeySequence.{keyingReply}
-use Rattle.khiin.specs.declared.key_sequence.Keying.{Keying}
+use Rattle.khiin_entries.specs.KeySequence.{keyingReply}
+use Rattle.khiin_entries.specs.declared.key_sequence.Keying.{Keying}
 use borrow.Author.Needs.{needs}
 use native.Mathlib.Omega.{arith}
 use Rattle.robinflint.proofs.reply.keying.Statement.{statement}

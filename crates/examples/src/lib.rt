@@ -1,0 +1,1 @@
+// Examples of document 01, computed from the definitions: the proofs are all that this crate has.

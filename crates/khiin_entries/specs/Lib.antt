@@ -1,0 +1,4 @@
+pub mod KeySequence
+pub mod Choices
+pub mod Listing
+pub mod Lines

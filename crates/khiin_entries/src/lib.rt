@@ -1,0 +1,3 @@
+// Keyings of entries.
+pub mod key_sequence;
+pub mod listing;
