@@ -1,40 +1,68 @@
 -- How the listing is written: lines from the arrays of an entry, as many as go into the buffer.
 use mathlib.Core.Path.{_≡_}
-use mathlib.Core.Bool.{Bool, true, false}
 use mathlib.Core.List.{List, [], _∷_, _++_}
-use Prim.Native.Nat.{ℕ, suc, _+_, _-_, _≤_, _<_}
-use lib.Dec.{leb, ltb}
+use Prim.Native.Nat.{ℕ, _+_, _-_, _≤_, _<_}
 use lib.ListN.{length, take, drop}
-use lib.Seq.{paste}
-use Rattle.ji.specs.Unicode.{pickNumber, pickText}
-use Rattle.khiin_entries.specs.Choices.{upTo, keyingIn}
-use Rattle.khiin_entries.specs.Listing.{decimal, together, fitting}
+use Rattle.ji.specs.Unicode.{pickNumber}
+use Rattle.ji.specs.Utf8.{bytes}
+use Rattle.ji.specs.Reply.{refusalNumber}
+use Rattle.ji.specs.declared.reply.Refusal.{Refusal}
+use Rattle.ji.specs.declared.lomaji.keys.Kind.{Kind}
+use Rattle.ji.specs.declared.lomaji.keys.Kind.the-variants.{Detoned, Numeric, Telex}
+use Rattle.khiin_entries.specs.Choices.{dotIn, upTo, keyingIn}
+use Rattle.khiin_entries.specs.Listing.{decimal, spaced, together, fitting, goingIn}
+
+-- ── one line
+-- a number and a byte behind it
+unfoldable pub numberThen : ℕ → ℕ → List ℕ
+numberThen n last = decimal n ++ (last ∷ [])
+
+-- the header's line, by its numbers
+unfoldable pub headerLine : ℕ → ℕ → ℕ → ℕ → ℕ → List ℕ
+headerLine parts dots numeric telex detoned = spaced (parts ∷ dots ∷ numeric ∷ telex ∷ detoned ∷ []) ++ bytes "\n"
+
+-- the line of a refusal
+unfoldable pub refusalLine : Refusal → List ℕ
+refusalLine why = bytes "refused " ++ (decimal (refusalNumber why) ++ bytes "\n")
+
+-- how many of these parts, in bytes, hold 0358
+unfoldable pub dottedIn : List (List ℕ) → ℕ
+dottedIn [] = 0
+dottedIn (w ∷ ws) = pickNumber (dotIn w) 1 0 + dottedIn ws
+
+-- the letter of a kind
+abbrev pub letterOf : Kind → ℕ
+letterOf Numeric = 0x4E
+letterOf Telex = 0x54
+letterOf Detoned = 0x44
 
 -- the line of the keying at a position: the kind's letter, the position and the keying, with a space between neighbours
 unfoldable pub lineIn : ℕ → List ℕ → List (List ℕ) → List (List ℕ) → List ℕ → ℕ → ℕ → List ℕ
 lineIn letter forms offsets lengths radices parts position =
-    letter ∷ 0x20 ∷ (decimal position ++ (0x20 ∷ (keyingIn forms offsets lengths radices parts position ++ (0x0A ∷ []))))
+    (letter ∷ 0x20 ∷ []) ++ (numberThen position 0x20 ++ (keyingIn forms offsets lengths radices parts position ++ (0x0A ∷ [])))
 
 -- the lines of a kind
 unfoldable pub linesIn : ℕ → List ℕ → List (List ℕ) → List (List ℕ) → List ℕ → ℕ → ℕ → List (List ℕ)
 linesIn letter forms offsets lengths radices parts count = upTo (lineIn letter forms offsets lengths radices parts) count
 
--- a line is written at `at` where it goes in: the place behind it, and the buffer
-abbrev pub lineEnd : List ℕ → ℕ → List ℕ → ℕ
-lineEnd line at before = pickNumber (leb (length line) (length before - at)) (at + length line) at
+-- ── many lines
+-- `text` stands from `at` on and ends at `end`; before and behind it the buffer is as it was
+pub record Put (before after : List ℕ) (at : ℕ) (text : List ℕ) (end : ℕ) : Type 0 where
+  pub is : after ≡ take at before ++ (text ++ drop end before)
+  pub ends : end ≡ at + length text
+  pub fits : end ≤ length before
 
-abbrev pub lineOver : List ℕ → ℕ → List ℕ → List ℕ
-lineOver line at before = pickText (leb (length line) (length before - at)) (paste before at line (length line)) before
-
--- of these lines, those from number `from` on, written at `at`, as many as go in: how many, and their text
-abbrev pub shownCount : List (List ℕ) → ℕ → ℕ → ℕ
-shownCount ls from room = fitting (drop from ls) room
-
+-- of these lines, those from number `from` on, as many as go in
 unfoldable pub shownText : List (List ℕ) → ℕ → ℕ → List ℕ
-shownText ls from room = together (take (shownCount ls from room) (drop from ls))
+shownText ls from room = together (goingIn (drop from ls) room)
 
--- they were: `next` is the number of the next line, and `end` the place behind them
+-- they were written at `at`: `next` is the number of the next line, and `end` the place behind them
 pub record Shown (ls : List (List ℕ)) (from at : ℕ) (before after : List ℕ) (next end : ℕ) : Type 0 where
-  pub count : next ≡ from + shownCount ls from (length before - at)
-  pub behind : end ≡ at + length (shownText ls from (length before - at))
-  pub text : after ≡ paste before at (shownText ls from (length before - at)) (length (shownText ls from (length before - at)))
+  pub count : next ≡ from + fitting (drop from ls) (length before - at)
+  pub text : Put before after at (shownText ls from (length before - at)) end
+
+-- of a longer listing these lines start with number `first`, and the next line to be written is number `next`. Where that is a line before
+-- them, which did not go in, nothing is written
+pub record Following (ls : List (List ℕ)) (first next at : ℕ) (before after : List ℕ) (next′ at′ : ℕ) : Type 0 where
+  pub early : next < first → (next′ ≡ next) × (at′ ≡ at) × (after ≡ before)
+  pub late : first ≤ next → (first ≤ next′) × Shown ls (next - first) at before after (next′ - first) at′

@@ -1,13 +1,9 @@
 -- What the program `keylist` prints of an entry (document 01, "Program `keylist`"), as lines.
-use mathlib.Core.Bool.{Bool, true, false}
-use mathlib.Core.List.{List, [], _∷_, _++_, map}
-use mathlib.Core.Path.{_≡_}
+use mathlib.Core.List.{List, [], _∷_, _++_}
 use Prim.Native.Nat.{ℕ, zero, suc, _+_, _-_, _/_, _%_}
-use Prim.Native.String.{String}
 use lib.Dec.{leb, ltb}
 use lib.ListN.{length, take, drop}
-use Rattle.ji.specs.Unicode.{Table, pickNumber, pickText}
-use Rattle.ji.specs.Text.{points}
+use Rattle.ji.specs.Unicode.{Table, pickNumber}
 use Rattle.ji.specs.Utf8.{encode, bytes}
 use Rattle.ji.specs.Reply.{Checked, good, bad, refusalNumber}
 use Rattle.ji.specs.declared.lomaji.keys.Kind.{Kind}
@@ -78,3 +74,11 @@ together (l ∷ ls) = l ++ together ls
 abbrev pub fitting : List (List ℕ) → ℕ → ℕ
 fitting [] room = 0
 fitting (l ∷ ls) room = pickNumber (leb (length l) room) (suc (fitting ls (room - length l))) 0
+
+-- those lines
+unfoldable pub goingIn : List (List ℕ) → ℕ → List (List ℕ)
+goingIn ls room = take (fitting ls room) ls
+
+-- of the listing the lines from number `from` on that go into a buffer of `room` bytes whole. The numbers start at 0
+unfoldable pub shown : Table → List ℕ → ℕ → ℕ → List (List ℕ)
+shown t entry from room = goingIn (drop from (listing t entry)) room

@@ -32,7 +32,7 @@ pub enum Keying {
 }
 
 // Where the part that starts at `at` ends: at the next space, or at the end of the entry.
-fn part_end(entry: &[u8], at: usize) -> usize
+pub(crate) fn part_end(entry: &[u8], at: usize) -> usize
     requires { ⌜ at ≤ length (now entry) ⌝ }
     ensures { λ r. ⌜ r ≡ at + length (firstPart (drop at (now (entry .entry)))) ⌝ }
 {
@@ -340,7 +340,7 @@ pub(crate) fn length_at(
 }
 
 // Writes `src` into `out` from `at` on.
-fn put(src: &[u8], out: &mut [u8], at: usize)
+pub(crate) fn put(src: &[u8], out: &mut [u8], at: usize)
     requires { ⌜ at + length (now src) ≤ length (now out) ⌝ }
     ensures { λ _. ⌜ now (out .exit) ≡ paste (now (out .entry)) at (now (src .entry)) (length (now (src .entry))) ⌝ }
 {

@@ -1,13 +1,35 @@
-// What the program `keylist` prints.
+// What the program `keylist` prints, block by block: of the lines of an entry as many, from a given one on, as go into the lent buffer.
+use crate::key_sequence::count_of;
+use crate::key_sequence::count_parts;
+use crate::key_sequence::holds_dot;
+use crate::key_sequence::lay_parts;
 use crate::key_sequence::length_at;
+use crate::key_sequence::part_end;
+use crate::key_sequence::put;
 use crate::key_sequence::write_at;
+use ji::lomaji::keys::Kind;
+use ji::reply;
+use ji::reply::Refusal;
+use ji::unicode;
+use ji::unicode::ByteLen;
+use ji::unicode::Verdict;
 ghost use mathlib.Core.Path.{_≡_};
-ghost use Prim.Native.Nat.{ℕ, _+_, _-_, _≤_, _<_};
-ghost use lib.ListN.{length, getD};
+ghost use mathlib.Core.List.{[], _∷_};
+ghost use Prim.Native.Nat.{_+_, _≤_, _<_};
+ghost use lib.ListN.{length};
 ghost use lib.Seq.{paste};
-ghost use Rattle.khiin_entries.specs.Choices.{Laid};
-ghost use Rattle.khiin_entries.specs.Listing.{digitCount, decimal};
-ghost use Rattle.khiin_entries.specs.Lines.{lineIn, linesIn, lineEnd, lineOver, Shown};
+ghost use Rattle.ji.specs.Unicode.{unicode16, pickNumber};
+ghost use Rattle.ji.specs.Reply.{over};
+ghost use Rattle.khiin_entries.specs.KeySequence.{split, keyings};
+ghost use Rattle.khiin_entries.specs.Choices.{pointsOf, Entry, Laid, lengthIn};
+ghost use Rattle.khiin_entries.specs.Listing.{digitCount, decimal, keyingLines, listing, together, shown};
+ghost use Rattle.khiin_entries.specs.Lines.{numberThen, headerLine, refusalLine, dottedIn, letterOf, lineIn, linesIn, Put, Shown, Following};
+
+// How many bytes were written, and the number of the next line.
+pub struct Listed {
+    pub len: ByteLen,
+    pub next: u64,
+}
 
 // How many digits a number has.
 fn digit_count(n: u64) -> usize
@@ -33,5 +55,269 @@ fn put_decimal(n: u64, digits: usize, out: &mut [u8], at: usize)
         i -= 1;
         out[i] = 0x30 + (left % 10) as u8;
         left = left / 10;
+    }
+}
+
+// Writes a number and a byte behind it, and returns the place behind both.
+fn put_number(n: u64, digits: usize, last: u8, out: &mut [u8], at: usize) -> usize
+    requires { ⌜ (digits ≡ digitCount 19 n) × (at + digits < length (now out)) ⌝ }
+    ensures { λ r. ⌜ (r ≡ at + digits + 1) × Put (now (out .entry)) (now (out .exit)) at (numberThen n last) r ⌝ }
+{
+    put_decimal(n, digits, out, at);
+    let end = at + digits;
+    out[end] = last;
+    end + 1
+}
+
+// Writes the line of the keying at a position. The position has `digits` digits, and the keying n bytes.
+fn put_line(
+    letter: u8,
+    forms: &[u8],
+    offsets: &[[u16; 4]; 16],
+    lengths: &[[u16; 4]; 16],
+    radices: &[u8; 16],
+    parts: usize,
+    position: u64,
+    digits: usize,
+    n: usize,
+    out: &mut [u8],
+    at: usize,
+) -> usize
+    requires { ⌜ (parts ≤ 16) × Laid (now offsets) (now lengths) (now radices) parts (length (now forms)) × (digits ≡ digitCount 19 position) × (n ≡ lengthIn (now lengths) (now radices) parts position) × (at + (digits + n + 4) ≤ length (now out)) ⌝ }
+    ensures { λ r. ⌜ Put (now (out .entry)) (now (out .exit)) at (lineIn letter (now (forms .entry)) (now (offsets .entry)) (now (lengths .entry)) (now (radices .entry)) parts position) r ⌝ }
+{
+    out[at] = letter;
+    out[at + 1] = 0x20;
+    let mid = put_number(position, digits, 0x20, out, at + 2);
+    let end = mid + n;
+    write_at(forms, offsets, lengths, radices, parts, position, out, end);
+    out[end] = 0x0A;
+    end + 1
+}
+
+// Writes the lines of a kind from the position `from` on, at `at`, as many as go in.
+fn put_lines(
+    letter: u8,
+    forms: &[u8],
+    offsets: &[[u16; 4]; 16],
+    lengths: &[[u16; 4]; 16],
+    radices: &[u8; 16],
+    parts: usize,
+    count: u64,
+    from: u64,
+    out: &mut [u8],
+    at: usize,
+) -> Listed
+    requires { ⌜ (parts ≤ 16) × Laid (now offsets) (now lengths) (now radices) parts (length (now forms)) × (length (now forms) ≤ 65535) × (at ≤ length (now out)) ⌝ }
+    ensures { λ r. ⌜ Shown (linesIn letter (now (forms .entry)) (now (offsets .entry)) (now (lengths .entry)) (now (radices .entry)) parts count) from at (now (out .entry)) (now (out .exit)) (r .next) (r .len .0) ⌝ }
+{
+    let mut i = from;
+    let mut end = at;
+    while i < count {
+        let digits = digit_count(i);
+        let n = length_at(lengths, radices, parts, i);
+        if out.len() - end < digits + n + 4 {
+            return Listed {
+                len: ByteLen(end),
+                next: i,
+            };
+        }
+        end = put_line(
+            letter,
+            forms,
+            offsets,
+            lengths,
+            radices,
+            parts,
+            i,
+            digits,
+            n,
+            out,
+            end,
+        );
+        i += 1;
+    }
+    Listed {
+        len: ByteLen(end),
+        next: i,
+    }
+}
+
+fn letter_of(kind: Kind) -> u8
+    ensures { λ r. ⌜ r ≡ letterOf kind ⌝ }
+{
+    match kind {
+        Kind::Detoned => 0x44,
+        Kind::Numeric => 0x4E,
+        Kind::Telex => 0x54,
+    }
+}
+
+// How many keyings of a kind a good entry has.
+fn count_kind(entry: &[u8], parts: usize, kind: Kind) -> u64
+    requires { ⌜ Entry (now entry) parts ⌝ }
+    ensures { λ r. ⌜ (r ≡ length (keyings unicode16 kind (pointsOf (now (entry .entry))))) × (r ≤ 4294967296) ⌝ }
+{
+    let mut offsets = [[0u16; 4]; 16];
+    let mut lengths = [[0u16; 4]; 16];
+    let mut forms = [0u8; 5152];
+    let radices = lay_parts(entry, parts, kind, &mut offsets, &mut lengths, &mut forms);
+    count_of(&radices, parts)
+}
+
+// The lines of a kind, which follow what was written so far. The first one's number is `first`.
+fn put_kind(
+    entry: &[u8],
+    parts: usize,
+    kind: Kind,
+    count: u64,
+    first: u64,
+    done: Listed,
+    out: &mut [u8],
+) -> Listed
+    requires { ⌜ Entry (now entry) parts × (count ≡ length (keyings unicode16 kind (pointsOf (now entry)))) × (count ≤ 4294967296) × (first ≤ 17179869184) × (done .len .0 ≤ length (now out)) ⌝ }
+    ensures { λ r. ⌜ Following (keyingLines kind 0 (keyings unicode16 kind (pointsOf (now (entry .entry))))) first (done .next) (done .len .0) (now (out .entry)) (now (out .exit)) (r .next) (r .len .0) ⌝ }
+{
+    let next = done.next;
+    if next < first {
+        return done;
+    }
+    if count <= next - first {
+        return done;
+    }
+    let mut offsets = [[0u16; 4]; 16];
+    let mut lengths = [[0u16; 4]; 16];
+    let mut forms = [0u8; 5152];
+    let radices = lay_parts(entry, parts, kind, &mut offsets, &mut lengths, &mut forms);
+    let letter = letter_of(kind);
+    let len = done.len;
+    let more = put_lines(
+        letter,
+        &forms,
+        &offsets,
+        &lengths,
+        &radices,
+        parts,
+        count,
+        next - first,
+        out,
+        len.0,
+    );
+    let end = more.len;
+    Listed {
+        len: end,
+        next: first + more.next,
+    }
+}
+
+fn one_if(yes: bool) -> u64
+    ensures { λ r. ⌜ r ≡ pickNumber yes 1 0 ⌝ }
+{
+    if yes {
+        return 1;
+    }
+    0
+}
+
+// How many parts hold U+0358.
+fn count_dotted(entry: &[u8]) -> u64
+    requires { ⌜ length (now entry) ≤ 1024 ⌝ }
+    ensures { λ r. ⌜ r ≡ dottedIn (split (now (entry .entry))) ⌝ }
+{
+    let mut at: usize = 0;
+    let mut n: u64 = 0;
+    while at <= entry.len() {
+        let end = part_end(entry, at);
+        n += one_if(holds_dot(&entry[at..end]));
+        at = end + 1;
+    }
+    n
+}
+
+// The first line of a listing, where the listing starts with it and it goes in.
+fn put_first(line: &[u8], from: u64, out: &mut [u8]) -> Listed
+    ensures { λ r. ⌜ Shown (now (line .entry) ∷ []) from 0 (now (out .entry)) (now (out .exit)) (r .next) (r .len .0) ⌝ }
+{
+    if 0 < from {
+        return Listed {
+            len: ByteLen(0),
+            next: from,
+        };
+    }
+    if out.len() < line.len() {
+        return Listed {
+            len: ByteLen(0),
+            next: 0,
+        };
+    }
+    put(line, out, 0);
+    Listed {
+        len: ByteLen(line.len()),
+        next: 1,
+    }
+}
+
+// The header. A number has at most 20 digits.
+fn put_header(
+    parts: u64,
+    dots: u64,
+    numeric: u64,
+    telex: u64,
+    detoned: u64,
+    from: u64,
+    out: &mut [u8],
+) -> Listed
+    ensures { λ r. ⌜ Shown (headerLine parts dots numeric telex detoned ∷ []) from 0 (now (out .entry)) (now (out .exit)) (r .next) (r .len .0) ⌝ }
+{
+    let mut line = [0u8; 105];
+    let a = put_number(parts, digit_count(parts), 0x20, &mut line, 0);
+    let b = put_number(dots, digit_count(dots), 0x20, &mut line, a);
+    let c = put_number(numeric, digit_count(numeric), 0x20, &mut line, b);
+    let d = put_number(telex, digit_count(telex), 0x20, &mut line, c);
+    let end = put_number(detoned, digit_count(detoned), 0x0A, &mut line, d);
+    put_first(&line[0..end], from, out)
+}
+
+// The only line where the entry is refused.
+fn list_refusal(why: Refusal, from: u64, out: &mut [u8]) -> Listed
+    ensures { λ r. ⌜ Shown (refusalLine why ∷ []) from 0 (now (out .entry)) (now (out .exit)) (r .next) (r .len .0) ⌝ }
+{
+    let mut line = [0u8; 29];
+    put(b"refused ", &mut line, 0);
+    let number = reply::number(why);
+    let end = put_number(number, digit_count(number), 0x0A, &mut line, 8);
+    put_first(&line[0..end], from, out)
+}
+
+// The lines of a good entry.
+fn list_entry(entry: &[u8], parts: usize, from: u64, out: &mut [u8]) -> Listed
+    requires { ⌜ Entry (now entry) parts ⌝ }
+    ensures { λ r. ⌜ Shown (listing unicode16 (now (entry .entry))) from 0 (now (out .entry)) (now (out .exit)) (r .next) (r .len .0) ⌝ }
+{
+    let numeric = count_kind(entry, parts, Kind::Numeric);
+    let telex = count_kind(entry, parts, Kind::Telex);
+    let detoned = count_kind(entry, parts, Kind::Detoned);
+    let dots = count_dotted(entry);
+    let a = put_header(parts as u64, dots, numeric, telex, detoned, from, out);
+    let b = put_kind(entry, parts, Kind::Numeric, numeric, 1, a, out);
+    let second = 1 + numeric;
+    let c = put_kind(entry, parts, Kind::Telex, telex, second, b, out);
+    let third = second + telex;
+    put_kind(entry, parts, Kind::Detoned, detoned, third, c, out)
+}
+
+// Writes the lines of the listing from number `from` on, as many as go into `out` whole.
+pub fn list(entry: &[u8], from: u64, out: &mut [u8]) -> Listed
+    ensures { λ r. ⌜ (r .next ≡ from + length (shown unicode16 (now (entry .entry)) from (length (now (out .entry))))) × (r .len .0 ≡ length (together (shown unicode16 (now (entry .entry)) from (length (now (out .entry)))))) × (now (out .exit) ≡ over (together (shown unicode16 (now (entry .entry)) from (length (now (out .entry))))) (now (out .entry))) ⌝ }
+{
+    match unicode::check(entry, 1024) {
+        Verdict::Refused(why) => list_refusal(why, from, out),
+        Verdict::Good => {
+            let parts = count_parts(entry);
+            if parts == 0 {
+                return list_refusal(Refusal::Parts, from, out);
+            }
+            list_entry(entry, parts, from, out)
+        }
     }
 }

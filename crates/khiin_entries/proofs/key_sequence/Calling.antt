@@ -97,7 +97,7 @@ verdict-good : (c : Checked) → verdictOf c ≡ Good → (s : List ℕ) × (c �
 verdict-good (good s) e = (s, refl)
 verdict-good (bad why) e = absurd (let z : _≡_ {A = ℕ} 0 1 = cc in omega arith)
 
-verdict-bad : (c : Checked) (why : Refusal) → verdictOf c ≡ Refused why → c ≡ bad why
+pub verdict-bad : (c : Checked) (why : Refusal) → verdictOf c ≡ Refused why → c ≡ bad why
 verdict-bad (good s) why e = absurd (let z : _≡_ {A = ℕ} 0 1 = cc in omega arith)
 verdict-bad (bad w) why e = cc
 
@@ -109,10 +109,10 @@ module _ (entry : List ℕ) (answer : Verdict) (says : answer ≡ verdictOf (che
 
   -- the entry is good
   module _ (e : answer ≡ Good) where
-    text : List ℕ
+    pub text : List ℕ
     text = verdict-good (checkWithin unicode16 1024 entry) (sym says ∙ e) .0
 
-    check-is : checkWithin unicode16 1024 entry ≡ good text
+    pub check-is : checkWithin unicode16 1024 entry ≡ good text
     unfolding text
     check-is = verdict-good (checkWithin unicode16 1024 entry) (sym says ∙ e) .1
 
@@ -129,11 +129,11 @@ module _ (entry : List ℕ) (answer : Verdict) (says : answer ≡ verdictOf (che
     entry-good parts c ne = record { checked = check-is ∙ ap good (sym text-is); count = c; some = omega arith }
 
     -- but its parts do not fit
-    fits-same : (leb (length (split text)) 16 && partsFit unicode16 (split text)) ≡ (leb (length (split entry)) 16 && allShort (split entry))
+    pub fits-same : (leb (length (split text)) 16 && partsFit unicode16 (split text)) ≡ (leb (length (split entry)) 16 && allShort (split entry))
     fits-same =
         ap₂ (λ (n : ℕ) (b : Bool). leb n 16 && b) (sym (parts-count entry text passed)) (sym (ap allShort (parts-are entry text passed) ∙ short-bytes unicode16 (split text)))
 
-    not-counted : 0 ≡ partCount entry → (leb (length (split entry)) 16 && allShort (split entry)) ≡ false
+    pub not-counted : 0 ≡ partCount entry → (leb (length (split entry)) 16 && allShort (split entry)) ≡ false
     unfolding partCount
     not-counted z =
         let test = leb (length (split entry)) 16 && allShort (split entry) in

@@ -1,5 +1,4 @@
 -- `listing::digit_count` meets its contract.
-use Prim.Native.Nat.{_≤_}
 use Rattle.khiin_entries.proofs.listing.Decimal.{Counting, counting-start, counting-next, counting-end}
 use borrow.Author.Needs.{needs}
 use native.Mathlib.Omega.{arith}

@@ -6,7 +6,7 @@ use native.Mathlib.Nat.{add-sub-cancel-left}
 use lib.ListN.{length, set}
 use lib.Seq.{paste}
 use Rattle.ji.proofs.Writing.{stores-1}
-use Rattle.khiin_entries.specs.Listing.{lastDigits, decimal}
+use Rattle.khiin_entries.specs.Listing.{lastDigits}
 use Rattle.khiin_entries.proofs.key_sequence.Backward.{Backward, backward-start, backward-step, backward-length, backward-end}
 use Rattle.khiin_entries.proofs.listing.Decimal.{last-length, decimal-length, decimal-is, last-turn}
 use borrow.Author.Needs.{needs}
