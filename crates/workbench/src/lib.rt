@@ -7,6 +7,7 @@ use ji::lomaji::tone_letter::HasToneLetter;
 use ji::nfc;
 use ji::nfd;
 use ji::reply::Refusal;
+use khiin_entries::listing;
 use robinflint::arguments::kind_of;
 use robinflint::reply;
 use robinflint::reply::Reply;
@@ -20,6 +21,7 @@ ghost use Rattle.ji.specs.Lomaji.ToneLetter.{hasToneLetterCall};
 ghost use Rattle.robinflint.specs.Reply.{replyOf};
 ghost use Rattle.workbench.specs.Khin.{khinCall};
 ghost use Rattle.workbench.specs.Keys.{formOf, keysCall};
+ghost use Rattle.workbench.specs.Listing.{listingCall};
 
 // NFD of the text. Refuses with 2, 3, 4, 7.
 #[no_mangle]
@@ -87,4 +89,23 @@ fn form_of(number: u64) -> Form
         return Form::Plain;
     }
     Form::Oo
+}
+
+// The lines of an entry's listing from number `from` on, as many as go into `out` whole: as the length how many bytes, as the count how many lines,
+// and as the position the number of the next line. An entry that is refused has one line, which says so.
+#[no_mangle]
+pub extern "C" fn wb_listing(entry: &[u8], from: u64, out: &mut [u8]) -> Reply
+    ensures { λ r. ⌜ replyOf r (now (out .exit)) ≡ listingCall (now (entry .entry)) from (now (out .entry)) ⌝ }
+{
+    let listed = listing::list(entry, from, out);
+    let len = listed.len;
+    Reply {
+        code: 0,
+        length: len.0 as u64,
+        count: listed.next - from,
+        body: 0,
+        tone: 0,
+        khin: 0,
+        position: listed.next,
+    }
 }
