@@ -69,6 +69,7 @@ fn from_raw(lists: &mut Lists, maker: &mut Maker) {
         lists.full(call, &[b'a', byte]);
     }
     inputs::byte_tuples(b"0123456789aN -/:\x00\x7F\x80\xC3\xFF", 3, &mut |keys| lists.full(call, keys));
+    inputs::byte_tuples(b"0159aN -/:", 4, &mut |keys| lists.full(call, keys));
     for turn in 0..300 {
         let size = maker.random.below([8, 40, 257][turn % 3]);
         let mut keys = maker.text(Style::Ascii, size);
@@ -169,12 +170,12 @@ fn compose_short(lists: &mut Lists, maker: &mut Maker) {
     inputs::tuples(&nasals, 4, &mut |body| lists.exact(asked(b"", body, 1, 0)));
 }
 
-/// One in twenty of the candidates of the well-formed syllables.
+/// The candidates of one in seven of the well-formed syllables.
 fn compose_syllables(lists: &mut Lists) {
     let mut count = 0;
     inputs::syllables(&mut |text| {
         count += 1;
-        if count % 46 == 1 {
+        if count % 7 == 1 {
             for record in oracle::candidates(std::str::from_utf8(text).unwrap()) {
                 let body = &record.out[..record.reply.body as usize];
                 lists.exact(asked(&record.out, body, record.reply.tone, 0));
@@ -247,8 +248,8 @@ fn candidate_short(lists: &mut Lists) {
     let mut count = 0;
     inputs::syllables(&mut |text| {
         count += 1;
-        if count % 53 == 1 {
-            let khin = ["", "--", "\u{b7}"][count / 53 % 3];
+        if count % 8 == 1 {
+            let khin = ["", "--", "\u{b7}"][count / 8 % 3];
             lists.exact(at(&[khin.as_bytes(), text].concat(), 0));
         }
     });
@@ -297,6 +298,22 @@ fn keying(lists: &mut Lists, maker: &mut Maker) {
         let copy = maker.damaged(&entry);
         lists.bounded(keyed(&copy, (turn % 3) as u64, 0));
     }
+    keying_syllables(lists, maker);
+}
+
+/// One in nine of the well-formed syllables, with the one nine before it as another part.
+fn keying_syllables(lists: &mut Lists, maker: &mut Maker) {
+    let (mut count, mut before) = (0, Vec::new());
+    inputs::syllables(&mut |text| {
+        count += 1;
+        if count % 9 == 1 {
+            let entry = [&before[..], b" ", text].concat();
+            let kind = (count / 9 % 3) as u64;
+            let keyings = Keyings::of(rules::entry(&entry).expect("two syllables are an entry"));
+            lists.exact(keyed(&entry, kind, maker.random.next() % keyings.count(kind)));
+            before = text.to_vec();
+        }
+    });
 }
 
 /// Entries for each of the refusals 2 to 5: each fault alone, the nearest entry
@@ -426,7 +443,7 @@ fn telex_syllables(lists: &mut Lists, maker: &mut Maker) {
     let mut count = 0;
     inputs::syllables(&mut |text| {
         count += 1;
-        if count % 61 == 1 {
+        if count % 12 == 1 {
             let settings = maker.settings();
             lists.exact(typed(text, maker.random.pick(b"sflxjjwnhou"), 1, &SETTINGS[0]));
             lists.exact(typed(text, maker.random.pick(&settings), 1, &settings));
