@@ -1,1 +1,3 @@
+pub mod Compose
+pub mod Telex
 pub mod Entries
