@@ -3,14 +3,15 @@ use mathlib.Core.Path.{_≡_}
 use mathlib.Core.List.{List, [], _∷_, _++_}
 use Prim.Native.Nat.{ℕ, _+_, _-_, _≤_, _<_}
 use lib.ListN.{length, take, drop}
-use Rattle.ji.specs.Unicode.{pickNumber}
+use Rattle.ji.specs.Unicode.{unicode16, pickNumber}
 use Rattle.ji.specs.Utf8.{bytes}
 use Rattle.ji.specs.Reply.{refusalNumber}
 use Rattle.ji.specs.declared.reply.Refusal.{Refusal}
 use Rattle.ji.specs.declared.lomaji.keys.Kind.{Kind}
 use Rattle.ji.specs.declared.lomaji.keys.Kind.the-variants.{Detoned, Numeric, Telex}
-use Rattle.khiin_entries.specs.Choices.{dotIn, upTo, keyingIn}
-use Rattle.khiin_entries.specs.Listing.{decimal, spaced, together, fitting, goingIn}
+use Rattle.khiin_entries.specs.KeySequence.{split, keyings}
+use Rattle.khiin_entries.specs.Choices.{pointsOf, dotIn, upTo, keyingIn}
+use Rattle.khiin_entries.specs.Listing.{decimal, spaced, keyingLines, together, fitting, goingIn}
 
 -- ── one line
 -- a number and a byte behind it
@@ -66,3 +67,22 @@ pub record Shown (ls : List (List ℕ)) (from at : ℕ) (before after : List ℕ
 pub record Following (ls : List (List ℕ)) (first next at : ℕ) (before after : List ℕ) (next′ at′ : ℕ) : Type 0 where
   pub early : next < first → (next′ ≡ next) × (at′ ≡ at) × (after ≡ before)
   pub late : first ≤ next → (first ≤ next′) × Shown ls (next - first) at before after (next′ - first) at′
+
+-- ── a good entry's lines
+-- those of a kind
+unfoldable pub kindLines : Kind → List ℕ → List (List ℕ)
+kindLines kind entry = keyingLines kind 0 (keyings unicode16 kind (pointsOf entry))
+
+-- the header, which gives these numbers of telex and detoned keyings, and the numeric lines
+unfoldable pub throughNumeric : List ℕ → ℕ → ℕ → ℕ → List (List ℕ)
+throughNumeric entry parts telex detoned =
+    (headerLine parts (dottedIn (split entry)) (length (keyings unicode16 Numeric (pointsOf entry))) telex detoned ∷ []) ++ kindLines Numeric entry
+
+-- and the telex lines
+unfoldable pub throughTelex : List ℕ → ℕ → ℕ → List (List ℕ)
+throughTelex entry parts detoned = throughNumeric entry parts (length (keyings unicode16 Telex (pointsOf entry))) detoned ++ kindLines Telex entry
+
+-- of these lines those from number `from` on were written, as many as go in, from the buffer's front on; `lines` is how many there are
+pub record Reached (ls : List (List ℕ)) (from : ℕ) (before after : List ℕ) (next end lines : ℕ) : Type 0 where
+  pub written : Shown ls from 0 before after next end
+  pub count : lines ≡ length ls

@@ -20,10 +20,10 @@ ghost use lib.ListN.{length};
 ghost use lib.Seq.{paste};
 ghost use Rattle.ji.specs.Unicode.{unicode16, pickNumber};
 ghost use Rattle.ji.specs.Reply.{over};
-ghost use Rattle.khiin_entries.specs.KeySequence.{split, keyings};
-ghost use Rattle.khiin_entries.specs.Choices.{pointsOf, Entry, Laid, lengthIn};
-ghost use Rattle.khiin_entries.specs.Listing.{digitCount, decimal, keyingLines, listing, together, shown};
-ghost use Rattle.khiin_entries.specs.Lines.{numberThen, headerLine, refusalLine, dottedIn, letterOf, lineIn, linesIn, Put, Shown, Following};
+ghost use Rattle.khiin_entries.specs.KeySequence.{split};
+ghost use Rattle.khiin_entries.specs.Choices.{Entry, Laid, lengthIn};
+ghost use Rattle.khiin_entries.specs.Listing.{digitCount, decimal, listing, together, shown};
+ghost use Rattle.khiin_entries.specs.Lines.{numberThen, headerLine, refusalLine, dottedIn, lineIn, linesIn, Put, Shown, Following, throughNumeric, throughTelex, Reached};
 
 // How many bytes were written, and the number of the next line.
 pub struct Listed {
@@ -143,69 +143,45 @@ fn put_lines(
     }
 }
 
-fn letter_of(kind: Kind) -> u8
-    ensures { λ r. ⌜ r ≡ letterOf kind ⌝ }
-{
-    match kind {
-        Kind::Detoned => 0x44,
-        Kind::Numeric => 0x4E,
-        Kind::Telex => 0x54,
-    }
-}
-
-// How many keyings of a kind a good entry has.
-fn count_kind(entry: &[u8], parts: usize, kind: Kind) -> u64
-    requires { ⌜ Entry (now entry) parts ⌝ }
-    ensures { λ r. ⌜ (r ≡ length (keyings unicode16 kind (pointsOf (now (entry .entry))))) × (r ≤ 4294967296) ⌝ }
-{
-    let mut offsets = [[0u16; 4]; 16];
-    let mut lengths = [[0u16; 4]; 16];
-    let mut forms = [0u8; 5152];
-    let radices = lay_parts(entry, parts, kind, &mut offsets, &mut lengths, &mut forms);
-    count_of(&radices, parts)
-}
-
-// The lines of a kind, which follow what was written so far. The first one's number is `first`.
-fn put_kind(
-    entry: &[u8],
+// The lines of a kind, of which the first has the number `first` in the listing. `next` is the number of the next line to write, and `at` the place
+// for it.
+fn put_section(
+    letter: u8,
+    forms: &[u8],
+    offsets: &[[u16; 4]; 16],
+    lengths: &[[u16; 4]; 16],
+    radices: &[u8; 16],
     parts: usize,
-    kind: Kind,
     count: u64,
     first: u64,
-    done: Listed,
+    next: u64,
     out: &mut [u8],
+    at: usize,
 ) -> Listed
-    requires { ⌜ Entry (now entry) parts × (count ≡ length (keyings unicode16 kind (pointsOf (now entry)))) × (count ≤ 4294967296) × (first ≤ 17179869184) × (done .len .0 ≤ length (now out)) ⌝ }
-    ensures { λ r. ⌜ Following (keyingLines kind 0 (keyings unicode16 kind (pointsOf (now (entry .entry))))) first (done .next) (done .len .0) (now (out .entry)) (now (out .exit)) (r .next) (r .len .0) ⌝ }
+    requires { ⌜ (parts ≤ 16) × Laid (now offsets) (now lengths) (now radices) parts (length (now forms)) × (length (now forms) ≤ 65535) × (count ≤ 4294967296) × (first ≤ 17179869184) × (at ≤ length (now out)) ⌝ }
+    ensures { λ r. ⌜ Following (linesIn letter (now (forms .entry)) (now (offsets .entry)) (now (lengths .entry)) (now (radices .entry)) parts count) first next at (now (out .entry)) (now (out .exit)) (r .next) (r .len .0) ⌝ }
 {
-    let next = done.next;
     if next < first {
-        return done;
+        return Listed {
+            len: ByteLen(at),
+            next: next,
+        };
     }
-    if count <= next - first {
-        return done;
-    }
-    let mut offsets = [[0u16; 4]; 16];
-    let mut lengths = [[0u16; 4]; 16];
-    let mut forms = [0u8; 5152];
-    let radices = lay_parts(entry, parts, kind, &mut offsets, &mut lengths, &mut forms);
-    let letter = letter_of(kind);
-    let len = done.len;
     let more = put_lines(
         letter,
-        &forms,
-        &offsets,
-        &lengths,
-        &radices,
+        forms,
+        offsets,
+        lengths,
+        radices,
         parts,
         count,
         next - first,
         out,
-        len.0,
+        at,
     );
-    let end = more.len;
+    let len = more.len;
     Listed {
-        len: end,
+        len: len,
         next: first + more.next,
     }
 }
@@ -289,21 +265,135 @@ fn list_refusal(why: Refusal, from: u64, out: &mut [u8]) -> Listed
     put_first(&line[0..end], from, out)
 }
 
-// The lines of a good entry.
+// What there is of a listing so far: how many bytes were written, the number of the next line to write, and how many lines there are up to here.
+struct Begun {
+    len: ByteLen,
+    next: u64,
+    lines: u64,
+}
+
+// The header and the numeric lines of a good entry, which has `telex` and `detoned` keyings of the other kinds.
+fn list_numeric(
+    entry: &[u8],
+    parts: usize,
+    telex: u64,
+    detoned: u64,
+    from: u64,
+    out: &mut [u8],
+) -> Begun
+    requires { ⌜ Entry (now entry) parts ⌝ }
+    ensures { λ r. ⌜ Reached (throughNumeric (now (entry .entry)) parts telex detoned) from (now (out .entry)) (now (out .exit)) (r .next) (r .len .0) (r .lines) × (r .lines ≤ 4294967297) ⌝ }
+{
+    let mut offsets = [[0u16; 4]; 16];
+    let mut lengths = [[0u16; 4]; 16];
+    let mut forms = [0u8; 5152];
+    let radices = lay_parts(
+        entry,
+        parts,
+        Kind::Numeric,
+        &mut offsets,
+        &mut lengths,
+        &mut forms,
+    );
+    let numeric = count_of(&radices, parts);
+    let dots = count_dotted(entry);
+    let head = put_header(parts as u64, dots, numeric, telex, detoned, from, out);
+    let at = head.len;
+    let more = put_section(
+        0x4E,
+        &forms,
+        &offsets,
+        &lengths,
+        &radices,
+        parts,
+        numeric,
+        1,
+        head.next,
+        out,
+        at.0,
+    );
+    let len = more.len;
+    Begun {
+        len: len,
+        next: more.next,
+        lines: 1 + numeric,
+    }
+}
+
+// The same, and the telex lines.
+fn list_telex(entry: &[u8], parts: usize, detoned: u64, from: u64, out: &mut [u8]) -> Begun
+    requires { ⌜ Entry (now entry) parts ⌝ }
+    ensures { λ r. ⌜ Reached (throughTelex (now (entry .entry)) parts detoned) from (now (out .entry)) (now (out .exit)) (r .next) (r .len .0) (r .lines) × (r .lines ≤ 8589934593) ⌝ }
+{
+    let mut offsets = [[0u16; 4]; 16];
+    let mut lengths = [[0u16; 4]; 16];
+    let mut forms = [0u8; 5152];
+    let radices = lay_parts(
+        entry,
+        parts,
+        Kind::Telex,
+        &mut offsets,
+        &mut lengths,
+        &mut forms,
+    );
+    let telex = count_of(&radices, parts);
+    let begun = list_numeric(entry, parts, telex, detoned, from, out);
+    let at = begun.len;
+    let first = begun.lines;
+    let more = put_section(
+        0x54,
+        &forms,
+        &offsets,
+        &lengths,
+        &radices,
+        parts,
+        telex,
+        first,
+        begun.next,
+        out,
+        at.0,
+    );
+    let len = more.len;
+    Begun {
+        len: len,
+        next: more.next,
+        lines: first + telex,
+    }
+}
+
+// All lines. Each kind is laid out once, the last one first, because the header says how many keyings there are of each.
 fn list_entry(entry: &[u8], parts: usize, from: u64, out: &mut [u8]) -> Listed
     requires { ⌜ Entry (now entry) parts ⌝ }
     ensures { λ r. ⌜ Shown (listing unicode16 (now (entry .entry))) from 0 (now (out .entry)) (now (out .exit)) (r .next) (r .len .0) ⌝ }
 {
-    let numeric = count_kind(entry, parts, Kind::Numeric);
-    let telex = count_kind(entry, parts, Kind::Telex);
-    let detoned = count_kind(entry, parts, Kind::Detoned);
-    let dots = count_dotted(entry);
-    let a = put_header(parts as u64, dots, numeric, telex, detoned, from, out);
-    let b = put_kind(entry, parts, Kind::Numeric, numeric, 1, a, out);
-    let second = 1 + numeric;
-    let c = put_kind(entry, parts, Kind::Telex, telex, second, b, out);
-    let third = second + telex;
-    put_kind(entry, parts, Kind::Detoned, detoned, third, c, out)
+    let mut offsets = [[0u16; 4]; 16];
+    let mut lengths = [[0u16; 4]; 16];
+    let mut forms = [0u8; 5152];
+    let radices = lay_parts(
+        entry,
+        parts,
+        Kind::Detoned,
+        &mut offsets,
+        &mut lengths,
+        &mut forms,
+    );
+    let detoned = count_of(&radices, parts);
+    let begun = list_telex(entry, parts, detoned, from, out);
+    let at = begun.len;
+    let first = begun.lines;
+    put_section(
+        0x44,
+        &forms,
+        &offsets,
+        &lengths,
+        &radices,
+        parts,
+        detoned,
+        first,
+        begun.next,
+        out,
+        at.0,
+    )
 }
 
 // Writes the lines of the listing from number `from` on, as many as go into `out` whole.

@@ -1,12 +1,12 @@
 -- A block of lines: it is in the buffer, and no more lines than are left.
 use mathlib.Core.Path.{_≡_, ap}
-use mathlib.Core.List.{List, _++_}
+use mathlib.Core.List.{List}
 use Prim.Native.Nat.{ℕ, _+_, _-_, _≤_}
 use native.Mathlib.Omega.{arith}
 use lib.ListN.{length, drop, length-append, length-drop}
 use Rattle.ji.specs.Unicode.{unicode16}
 use Rattle.ji.specs.Reply.{over}
-use Rattle.khiin_entries.specs.Listing.{listing, goingIn, shown}
+use Rattle.khiin_entries.specs.Listing.{listing, shown}
 use Rattle.khiin_entries.proofs.listing.Fitting.{fit-most, going-count}
 
 pub block-inside : (text before after : List ℕ) (len : ℕ) → len ≡ length text → after ≡ over text before → length after ≡ length before → len ≤ length after

@@ -4,7 +4,6 @@ use mathlib.Core.Bool.{Bool}
 use mathlib.Core.List.{List, [], _∷_, _++_, map, append-assoc}
 use Prim.Native.Nat.{ℕ, zero, suc, _+_, _-_, _≤_, _<_}
 use native.Mathlib.Nat.{add-zero, zero-add, add-sub-cancel-left}
-use native.Mathlib.Decide.{decLe}
 use native.Mathlib.Omega.{arith}
 use lib.ListN.{length, drop, getD, length-append, length-drop}
 use lib.Seq.{ext-getD}
@@ -18,15 +17,15 @@ use Rattle.ji.specs.declared.unicode.Verdict.the-variants.{Good, Refused}
 use Rattle.ji.specs.declared.lomaji.keys.Kind.{Kind}
 use Rattle.ji.specs.declared.lomaji.keys.Kind.the-variants.{Detoned, Numeric, Telex}
 use Rattle.khiin_entries.specs.KeySequence.{split, keyings, checkParts, checkEntry}
-use Rattle.khiin_entries.specs.Choices.{pointsOf, partCount, Entry, choicesIn, laidOut, Laid, keyingIn}
+use Rattle.khiin_entries.specs.Choices.{pointsOf, partCount, Entry, choicesIn, laidOut, Laid, countIn, keyingIn}
 use Rattle.khiin_entries.specs.Listing.{decimal, dotted, keyingLine, keyingLines, header, listingOf, listing, together, goingIn, shown}
-use Rattle.khiin_entries.specs.Lines.{numberThen, headerLine, refusalLine, dottedIn, letterOf, lineIn, linesIn, shownText, Shown, Following}
+use Rattle.khiin_entries.specs.Lines.{numberThen, headerLine, refusalLine, dottedIn, letterOf, lineIn, linesIn, shownText, Shown, Following, kindLines, throughNumeric, throughTelex, Reached}
 use Rattle.khiin_entries.proofs.key_sequence.Splitting.{parts-are, parts-count, dot-bytes}
-use Rattle.khiin_entries.proofs.key_sequence.Laying.{length-upTo, upTo-at}
+use Rattle.khiin_entries.proofs.key_sequence.Laying.{length-upTo, upTo-at, count-fits}
 use Rattle.khiin_entries.proofs.key_sequence.Filling.{entry-passed, entry-parts}
 use Rattle.khiin_entries.proofs.key_sequence.Calling.{checked-good, laid-count, laid-keying, verdict-bad, check-is, text, fits-same, not-counted}
 use Rattle.khiin_entries.proofs.listing.Fitting.{fit-most, going-count}
-use Rattle.khiin_entries.proofs.listing.Putting.{put-length, shown-none, following}
+use Rattle.khiin_entries.proofs.listing.Putting.{put-length, following}
 
 -- ── the lines of a kind
 pub lines-count : (kind : Kind) (at : ℕ) (ks : List (List ℕ)) → length (keyingLines kind at ks) ≡ length ks
@@ -74,36 +73,20 @@ module _ {entry : List ℕ} {parts : ℕ} (h : Entry entry parts) (kind : Kind) 
       ∙ ap (λ (m : ℕ). keyingLine kind m (getD ks i [])) (sym (zero-add i))
       ∙ sym (lines-at kind 0 ks i (omega arith)))
 
-  pub kind-shown : (forms : List ℕ) (offsets lengths : List (List ℕ)) (radices : List ℕ) (used count letter : ℕ) → Laid offsets lengths radices parts used → laidOut forms offsets lengths radices parts ≡ choicesIn unicode16 kind entry → count ≡ length ks → letter ≡ letterOf kind
-      → {from at : ℕ} {before after : List ℕ} {next end : ℕ} → Shown (linesIn letter forms offsets lengths radices parts count) from at before after next end → Shown (keyingLines kind 0 ks) from at before after next end
-  kind-shown forms offsets lengths radices used count letter laid texts e l s =
-      rw (← lines-are forms offsets lengths radices used count laid texts e, ← l) s
-
 -- ── one section behind another
 pub shown-fits : {ls : List (List ℕ)} {from at : ℕ} {before after : List ℕ} {next end : ℕ} → Shown ls from at before after next end → end ≤ length after
 shown-fits h = omega (arith, h .text .fits, put-length (h .text))
 
-pub shown-most : {ls : List (List ℕ)} {from at : ℕ} {before after : List ℕ} {next end : ℕ} → Shown ls from at before after next end → from ≤ length ls → next ≤ length ls
-shown-most {ls} {from} {at} {before} h k = omega (arith, h .count, fit-most (drop from ls) (length before - at), length-drop from ls)
+pub shown-most : {ls : List (List ℕ)} {from at : ℕ} {before after : List ℕ} {next end : ℕ} → Shown ls from at before after next end → next ≤ from + (length ls - from)
+shown-most {ls} {from} {at} {before} h = omega (arith, h .count, fit-most (drop from ls) (length before - at), length-drop from ls)
 
 module _ (ls : List (List ℕ)) (first next at : ℕ) (before : List ℕ) where
-  -- a line before them did not go in, all of them are passed, or some are left
+  -- a line before them did not go in, or none is left before them
   pub following-early : next < first → Following ls first next at before before next at
   following-early h = record { early = λ k. (refl, refl, refl); late = λ k. absurd (omega arith) }
 
-  pub following-passed : first ≤ next → at ≤ length before → length ls ≤ next - first → Following ls first next at before before next at
-  following-passed h room k = record { early = λ l. absurd (omega arith); late = λ l. (l, shown-none ls (next - first) at before room k) }
-
   pub following-some : {after : List ℕ} {more end : ℕ} → first ≤ next → Shown ls (next - first) at before after more end → Following ls first next at before after (first + more) end
   following-some {after} {more} {end} h s = record { early = λ l. absurd (omega arith); late = λ l. (omega arith, rw (add-sub-cancel-left first more) s) }
-
--- the place behind what was written is in the buffer
-pub following-fits : {ls : List (List ℕ)} {first next at : ℕ} {before after : List ℕ} {next′ end : ℕ} → Following ls first next at before after next′ end → at ≤ length before → end ≤ length after
-following-fits {ls} {first} {next} {at} {before} {after} {next′} {end} h room = go (decLe first next)
-  where
-    go : Dec (first ≤ next) → end ≤ length after
-    go (yes k) = let t = h .late k .1 .text in omega (arith, t .fits, put-length t)
-    go (no k) = let e = h .early (omega arith) in omega (arith, e .1, ap length (e .2))
 
 -- ── the whole
 dotted-bytes : (ws : List (List ℕ)) → dottedIn (map encode ws) ≡ dotted ws
@@ -111,44 +94,59 @@ unfolding dottedIn
 dotted-bytes [] = refl
 dotted-bytes (w ∷ ws) = ap₂ (λ (b : Bool) (n : ℕ). pickNumber b 1 0 + n) (dot-bytes w) (dotted-bytes ws)
 
-module _ {entry : List ℕ} {parts : ℕ} (h : Entry entry parts) (dots numeric telex detoned : ℕ) (is-dots : dots ≡ dottedIn (split entry))
-    (is-numeric : numeric ≡ length (keyings unicode16 Numeric (pointsOf entry))) (is-telex : telex ≡ length (keyings unicode16 Telex (pointsOf entry))) (is-detoned : detoned ≡ length (keyings unicode16 Detoned (pointsOf entry))) where
+abbrev countOf : Kind → List ℕ → ℕ
+countOf kind entry = length (keyings unicode16 kind (pointsOf entry))
+
+module _ {entry : List ℕ} {parts : ℕ} (h : Entry entry parts) where
+  -- one kind more
+  module _ (kind : Kind) (forms : List ℕ) (offsets lengths : List (List ℕ)) (radices : List ℕ) (used count : ℕ)
+      (laid : Laid offsets lengths radices parts used) (texts : laidOut forms offsets lengths radices parts ≡ choicesIn unicode16 kind entry) (is : count ≡ countIn radices parts) where
+    pub count-is : (count ≡ countOf kind entry) × (count ≤ 4294967296)
+    count-is =
+        let e : countIn radices parts ≡ countOf kind entry = laid-count h kind 0 [] forms offsets lengths radices used laid texts in
+        (is ∙ e, omega (arith, is, count-fits radices parts (entry-parts h .1) (λ i k. laid i k .few)))
+
+    lines-here : linesIn (letterOf kind) forms offsets lengths radices parts count ≡ kindLines kind entry
+    unfolding kindLines
+    lines-here = lines-are h kind forms offsets lengths radices used count laid texts (count-is .0)
+
+    pub section-reached : (ls : List (List ℕ)) {from : ℕ} {before mid after : List ℕ} {next end lines next′ end′ lines′ : ℕ} → Reached ls from before mid next end lines → lines′ ≡ lines + count
+        → Following (linesIn (letterOf kind) forms offsets lengths radices parts count) lines next end mid after next′ end′ → Reached (ls ++ kindLines kind entry) from before after next′ end′ lines′
+    unfolding kindLines
+    section-reached ls r e f =
+        record {
+          written = following ls (kindLines kind entry) _ _ _ _ _ _ _ _ _ (r .written) (rw (lines-here, r .count) at f);
+          count = omega (arith, e, r .count, count-is .0, length-append ls (kindLines kind entry), lines-count kind 0 (keyings unicode16 kind (pointsOf entry)));
+        }
+
   abbrev s : List ℕ
   s = pointsOf entry
 
-  abbrev head : List (List ℕ)
-  head = headerLine parts dots numeric telex detoned ∷ []
-
-  abbrev lines : Kind → List (List ℕ)
-  lines kind = keyingLines kind 0 (keyings unicode16 kind s)
-
-  header-is : header unicode16 s ≡ headerLine parts dots numeric telex detoned
+  header-is : headerLine parts (dottedIn (split entry)) (countOf Numeric entry) (countOf Telex entry) (countOf Detoned entry) ≡ header unicode16 s
   unfolding header headerLine
   header-is =
       let p : parts ≡ length (split s) = entry-parts h .0 ∙ parts-count entry s (entry-passed h) in
-      let d : dots ≡ dotted (split s) = is-dots ∙ ap dottedIn (parts-are entry s (entry-passed h)) ∙ dotted-bytes (split s) in
-      rw (p, d, is-numeric, is-telex, is-detoned)
+      let d : dottedIn (split entry) ≡ dotted (split s) = ap dottedIn (parts-are entry s (entry-passed h)) ∙ dotted-bytes (split s) in
+      rw (p, d)
 
-  listing-is : listing unicode16 entry ≡ head ++ lines Numeric ++ lines Telex ++ lines Detoned
-  unfolding listing
-  listing-is =
-      ap (listingOf unicode16) (checked-good h Numeric 0 [])
-      ∙ ap (λ (l : List ℕ). l ∷ (lines Numeric ++ (lines Telex ++ lines Detoned))) header-is
-      ∙ sym (append-assoc (head ++ lines Numeric) (lines Telex) (lines Detoned) ∙ append-assoc head (lines Numeric) (lines Telex ++ lines Detoned))
+  -- all kinds: the listing
+  pub listing-is : (detoned : ℕ) → detoned ≡ countOf Detoned entry → throughTelex entry parts detoned ++ kindLines Detoned entry ≡ listing unicode16 entry
+  unfolding listing throughTelex throughNumeric kindLines
+  listing-is detoned e =
+      rw e
+      (append-assoc ((headerLine parts (dottedIn (split entry)) (countOf Numeric entry) (countOf Telex entry) (countOf Detoned entry) ∷ []) ++ kindLines Numeric entry) (kindLines Telex entry) (kindLines Detoned entry)
+      ∙ ap (λ (l : List ℕ). l ∷ (kindLines Numeric entry ++ (kindLines Telex entry ++ kindLines Detoned entry))) header-is
+      ∙ sym (ap (listingOf unicode16) (checked-good h Numeric 0 [])))
 
-  first-telex : 1 + numeric ≡ length (head ++ lines Numeric)
-  first-telex = omega (arith, is-numeric, lines-count Numeric 0 (keyings unicode16 Numeric s))
+pub head-reached : (entry : List ℕ) (parts dots numeric telex detoned : ℕ) {from : ℕ} {before after : List ℕ} {next end : ℕ} → dots ≡ dottedIn (split entry) → numeric ≡ countOf Numeric entry → Shown (headerLine parts dots numeric telex detoned ∷ []) from 0 before after next end
+    → Reached (headerLine parts (dottedIn (split entry)) (countOf Numeric entry) telex detoned ∷ []) from before after next end 1
+head-reached entry parts dots numeric telex detoned d n h = record { written = rw (← d, ← n) h; count = refl }
 
-  first-detoned : 1 + numeric + telex ≡ length (head ++ lines Numeric ++ lines Telex)
-  first-detoned = omega (arith, first-telex, is-telex, lines-count Telex 0 (keyings unicode16 Telex s), length-append (head ++ lines Numeric) (lines Telex))
+pub reached-as : {ls ls′ : List (List ℕ)} {from : ℕ} {before after : List ℕ} {next end lines : ℕ} → ls ≡ ls′ → Reached ls from before after next end lines → Reached ls′ from before after next end lines
+reached-as e h = rw (← e) h
 
-  pub entry-shown : {from : ℕ} {x x1 x2 x3 x4 : List ℕ} {n1 n2 n3 n4 e1 e2 e3 e4 : ℕ}
-      → Shown head from 0 x x1 n1 e1 → Following (lines Numeric) 1 n1 e1 x1 x2 n2 e2 → Following (lines Telex) (1 + numeric) n2 e2 x2 x3 n3 e3 → Following (lines Detoned) (1 + numeric + telex) n3 e3 x3 x4 n4 e4
-      → Shown (listing unicode16 entry) from 0 x x4 n4 e4
-  entry-shown a b c d =
-      let ab = following head (lines Numeric) _ _ _ _ _ _ _ _ _ a b in
-      let abc = following (head ++ lines Numeric) (lines Telex) _ _ _ _ _ _ _ _ _ ab (rw first-telex at c) in
-      rw listing-is (following (head ++ lines Numeric ++ lines Telex) (lines Detoned) _ _ _ _ _ _ _ _ _ abc (rw first-detoned at d))
+pub reached-fits : {ls : List (List ℕ)} {from : ℕ} {before after : List ℕ} {next end lines : ℕ} → Reached ls from before after next end lines → end ≤ length after
+reached-fits r = shown-fits (r .written)
 
 -- ── an entry that is refused
 module _ (entry : List ℕ) (answer : Verdict) (says : answer ≡ verdictOf (checkWithin unicode16 1024 entry)) where

@@ -3,7 +3,6 @@ use Rattle.ji.specs.Unicode.{unicode16}
 use Rattle.khiin_entries.specs.Listing.{together, shown}
 use Rattle.lister.proofs.Laws.{block-inside, next-inside}
 use borrow.Author.Needs.{needs}
-use native.Mathlib.Omega.{arith}
 use Rattle.lister.proofs.print_block.Statement.{statement}
 use Rattle.lister.proofs.print_block.Tie as tie
 

@@ -4,7 +4,6 @@ use lib.ListN.{length}
 use Rattle.ji.specs.Unicode.{unicode16}
 use Rattle.khiin_entries.specs.Listing.{listing}
 use borrow.Author.Needs.{needs}
-use native.Mathlib.Omega.{arith}
 use Rattle.lister.proofs.print_listing.Statement.{statement}
 use Rattle.lister.proofs.print_listing.Tie as tie
 
