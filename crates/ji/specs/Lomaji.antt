@@ -2,5 +2,6 @@
 pub mod Strip
 pub mod Quick
 pub mod Khin
+pub mod Dot
 pub mod ToneLetter
 pub mod Keys

@@ -1,4 +1,5 @@
 // What `lomaji.rs` does, a file for each job.
+pub mod dot;
 pub mod keys;
 pub mod khin;
 mod quick;

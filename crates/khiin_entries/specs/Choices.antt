@@ -38,11 +38,6 @@ isToned Detoned = false
 isToned Numeric = true
 isToned Telex = true
 
--- a part holds 0358, which is CD 98
-unfoldable pub dotIn : List ℕ → Bool
-dotIn [] = false
-dotIn (b ∷ s) = (eqb b 0xCD && eqb (getD s 0 0) 0x98) || dotIn s
-
 -- the first part
 unfoldable pub firstPart : List ℕ → List ℕ
 firstPart s = getD (split s) 0 []

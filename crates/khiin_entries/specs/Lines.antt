@@ -6,11 +6,12 @@ use lib.ListN.{length, take, drop}
 use Rattle.ji.specs.Unicode.{unicode16, pickNumber}
 use Rattle.ji.specs.Utf8.{bytes}
 use Rattle.ji.specs.Reply.{refusalNumber}
+use Rattle.ji.specs.Lomaji.Dot.{dotIn}
 use Rattle.ji.specs.declared.reply.Refusal.{Refusal}
 use Rattle.ji.specs.declared.lomaji.keys.Kind.{Kind}
 use Rattle.ji.specs.declared.lomaji.keys.Kind.the-variants.{Detoned, Numeric, Telex}
 use Rattle.khiin_entries.specs.KeySequence.{split, keyings}
-use Rattle.khiin_entries.specs.Choices.{pointsOf, dotIn, upTo, keyingIn}
+use Rattle.khiin_entries.specs.Choices.{pointsOf, upTo, keyingIn}
 use Rattle.khiin_entries.specs.Listing.{decimal, spaced, keyingLines, together, fitting, goingIn}
 
 -- ── one line

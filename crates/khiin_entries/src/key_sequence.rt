@@ -1,5 +1,6 @@
 // Keyings of an entry. The forms of each part stand in one buffer, and arrays say of each part's choices where they stand and how long they
 // are; a keying is put together from them by the digits of its position, whose radices are the numbers of choices.
+use ji::lomaji::dot::holds_dot;
 use ji::lomaji::keys;
 use ji::lomaji::keys::Form;
 use ji::lomaji::keys::Kind;
@@ -16,7 +17,7 @@ ghost use lib.ListN.{length, drop, getD};
 ghost use lib.Seq.{paste};
 ghost use Rattle.ji.specs.Unicode.{unicode16, same as sameText};
 ghost use Rattle.ji.specs.Reply.{good, checkText};
-ghost use Rattle.khiin_entries.specs.Choices.{pointsOf, formBytes, isToned, dotIn, firstPart, partCount, rowOne, rowTwo, rowOneToned, rowTwoToned, RowOf, Radix, Laid, Entry, laidOut, choicesIn, countIn, lengthIn, keyingIn, laidReply};
+ghost use Rattle.khiin_entries.specs.Choices.{pointsOf, formBytes, isToned, firstPart, partCount, rowOne, rowTwo, rowOneToned, rowTwoToned, RowOf, Radix, Laid, Entry, laidOut, choicesIn, countIn, lengthIn, keyingIn, laidReply};
 ghost use Rattle.khiin_entries.specs.KeySequence.{keyingCall, keyingReply};
 
 // The length of a keying, and how many the list has.
@@ -65,29 +66,6 @@ pub(crate) fn count_parts(entry: &[u8]) -> usize
         at = end + 1;
     }
     n
-}
-
-fn is_dot(a: u8, b: u8) -> bool
-    ensures { λ r. ⌜ r ≡ (eqb a 0xCD && eqb b 0x98) ⌝ }
-{
-    if a == 0xCD {
-        return b == 0x98;
-    }
-    false
-}
-
-// Whether a part holds U+0358.
-pub(crate) fn holds_dot(part: &[u8]) -> bool
-    ensures { λ r. ⌜ r ≡ dotIn (now (part .entry)) ⌝ }
-{
-    let mut i: usize = 1;
-    while i < part.len() {
-        if is_dot(part[i - 1], part[i]) {
-            return true;
-        }
-        i += 1;
-    }
-    false
 }
 
 // Writes a form of a part at `at`, and returns the place behind it.

@@ -1,12 +1,12 @@
 // What the program `keylist` prints, block by block: of the lines of an entry as many, from a given one on, as go into the lent buffer.
 use crate::key_sequence::count_of;
 use crate::key_sequence::count_parts;
-use crate::key_sequence::holds_dot;
 use crate::key_sequence::lay_parts;
 use crate::key_sequence::length_at;
 use crate::key_sequence::part_end;
 use crate::key_sequence::put;
 use crate::key_sequence::write_at;
+use ji::lomaji::dot::holds_dot;
 use ji::lomaji::keys::Kind;
 use ji::reply;
 use ji::reply::Refusal;

@@ -27,7 +27,8 @@ use Rattle.ji.proofs.lomaji.keys.Bytes.{addedKey, toned-bytes, keys-bytes}
 use Rattle.ji.proofs.unicode.Bytes.{same-equal, same-itself, same-bytes}
 use Rattle.ji.proofs.unicode.Checked.{Passed, check-passed}
 use Rattle.khiin_entries.specs.KeySequence.{pickTexts, holdsDot, alone, forms, choices}
-use Rattle.khiin_entries.specs.Choices.{pointsOf, formBytes, isToned, dotIn, chosen, choicesOf}
+use Rattle.ji.specs.Lomaji.Dot.{dotIn}
+use Rattle.khiin_entries.specs.Choices.{pointsOf, formBytes, isToned, chosen, choicesOf}
 use Rattle.khiin_entries.proofs.key_sequence.Splitting.{dot-bytes}
 
 -- ── what the call gives

@@ -10,7 +10,8 @@ use Rattle.ji.specs.declared.lomaji.keys.Form.the-variants.{Plain, Oo}
 use Rattle.ji.specs.declared.lomaji.keys.Kind.{Kind}
 use Rattle.ji.specs.declared.lomaji.keys.Kind.the-variants.{Detoned}
 use Rattle.ji.proofs.lomaji.keys.Bytes.{addedKey}
-use Rattle.khiin_entries.specs.Choices.{pointsOf, formBytes, isToned, dotIn, rowOne, rowTwo, rowOneToned, rowTwoToned, RowOf}
+use Rattle.ji.specs.Lomaji.Dot.{dotIn}
+use Rattle.khiin_entries.specs.Choices.{pointsOf, formBytes, isToned, rowOne, rowTwo, rowOneToned, rowTwoToned, RowOf}
 use Rattle.khiin_entries.specs.declared.key_sequence.Row.{Row}
 use Rattle.khiin_entries.proofs.key_sequence.Forms.{form-toned, several-detoned, several-toned}
 use Rattle.khiin_entries.proofs.key_sequence.Rows.{one-row, one-toned-row, two-row, two-toned-row, first-room, OnePut, one-stands, one-front, one-short, TwoPut, two-first, two-second, two-front, two-short}

@@ -11,7 +11,8 @@ use lib.ListN.{take, drop, getD}
 use lib.Seq.{drop-cons}
 use Rattle.ji.specs.Unicode.{pickNumber}
 use Rattle.khiin_entries.specs.KeySequence.{split}
-use Rattle.khiin_entries.specs.Choices.{firstPart, dotIn}
+use Rattle.ji.specs.Lomaji.Dot.{dotIn}
+use Rattle.khiin_entries.specs.Choices.{firstPart}
 use Rattle.khiin_entries.specs.Lines.{dottedIn}
 use Rattle.khiin_entries.proofs.key_sequence.Splitting.{Passing, passing-start, passing-more, passing-inside, passing-cut, passing-next}
 use borrow.Author.Needs.{needs}

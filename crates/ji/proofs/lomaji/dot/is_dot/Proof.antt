@@ -1,11 +1,11 @@
--- `key_sequence::is_dot` meets its contract.
+-- `lomaji::dot::is_dot` meets its contract.
 use mathlib.Core.Path.{_≡_, sym, _∙_}
 use borrow.Author.Tests.{eq-eqb, ne-eqb}
 use Rattle.ji.proofs.Bools.{and-yes, and-no}
 use borrow.Author.Needs.{needs}
 use native.Mathlib.Omega.{arith}
-use Rattle.khiin_entries.proofs.key_sequence.is_dot.Statement.{statement}
-use Rattle.khiin_entries.proofs.key_sequence.is_dot.Tie as tie
+use Rattle.ji.proofs.lomaji.dot.is_dot.Statement.{statement}
+use Rattle.ji.proofs.lomaji.dot.is_dot.Tie as tie
 
 returns : tie.Need-returns
 returns c = sym (and-yes _ _ (eq-eqb _ _ (c .if1 .taken)))
