@@ -1,2 +1,5 @@
 pub mod Records
 pub mod Spelling
+pub mod RawBytes
+pub mod Walking
+pub mod Candidates

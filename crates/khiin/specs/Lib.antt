@@ -3,3 +3,4 @@ pub mod Records
 pub mod Converter
 pub mod Telex
 pub mod Compose
+pub mod RawBytes

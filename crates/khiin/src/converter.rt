@@ -1,5 +1,5 @@
 // The telex step: `convert_to_telex`, its text only.
-use crate::syllable::compose::compose_points;
+use crate::syllable::quick::compose_quick;
 use ji::lomaji::khin::Khin;
 use ji::lomaji::strip;
 use ji::lomaji::strip::Strip;
@@ -386,17 +386,20 @@ fn takes_tone(tone: Tone, rest: &[u16]) -> bool
     }
 }
 
-// Composes the stripped text `rest` anew, which is `whole` if the key joins it. `raw` are the bytes of it and the key.
+// Composes the stripped text `rest` anew, which is `whole` if the key joins it. `short` and `long` are their bytes, and `raw` those of the stripped
+// text and the key.
 fn compose_with(
     k: ToneKeys,
     key: u16,
     tone: Tone,
     raw: &[u8],
+    short: &[u8],
     rest: &[u16],
+    long: &[u8],
     whole: &[u16],
     out: &mut [u8],
 ) -> TextAnswer
-    requires { ⌜ (length (now rest) ≤ 400) × (length (now whole) ≤ 400) × (now whole ≡ grown key (now rest)) × (now raw ≡ encode (now rest ++ (key ∷ []))) ⌝ }
+    requires { ⌜ (length (now rest) ≤ 400) × (length (now whole) ≤ 400) × (now whole ≡ grown key (now rest)) × (now raw ≡ encode (now rest ++ (key ∷ []))) × (now short ≡ encode (now rest)) × (now long ≡ encode (now whole)) ⌝ }
     ensures { λ r. ⌜ textReply r (now (out .exit)) ≡ placed 0 (encode (composedOf unicode16 k key tone (now (rest .entry)))) (now (out .entry)) ⌝ }
 {
     if takes_tone(tone, rest) {
@@ -404,12 +407,12 @@ fn compose_with(
         let typed = key_to_tone(k, low);
         if tone::is_tone(typed) {
             let spoken = shared_or(k, low, typed, rest);
-            return compose_points(raw, rest, spoken, Khin::No, out);
+            return compose_quick(raw, short, rest, spoken, Khin::No, out);
         }
         let spoken = shared_or(k, tone_to_key(k, tone), tone, whole);
-        return compose_points(raw, whole, spoken, Khin::No, out);
+        return compose_quick(raw, long, whole, spoken, Khin::No, out);
     }
-    compose_points(raw, whole, Tone::None, Khin::No, out)
+    compose_quick(raw, long, whole, Tone::None, Khin::No, out)
 }
 
 // The same, with the key behind the stripped text in `body`. A space joins no body.
@@ -421,15 +424,17 @@ fn compose_step(
     body: &[u16],
     out: &mut [u8],
 ) -> TextAnswer
-    requires { ⌜ (0 < length (now body)) × (length (now body) ≤ 400) × (now body ≡ butLast 1 (now body) ++ (key ∷ [])) × (now raw ≡ encode (now body)) ⌝ }
+    requires { ⌜ (0 < length (now body)) × (length (now body) ≤ 400) × (now body ≡ butLast 1 (now body) ++ (key ∷ [])) × (now raw ≡ encode (now body)) × (key ≤ 0x7F) ⌝ }
     ensures { λ r. ⌜ textReply r (now (out .exit)) ≡ placed 0 (encode (composedOf unicode16 k key tone (butLast 1 (now (body .entry))))) (now (out .entry)) ⌝ }
 {
     let n = body.len() - 1;
     let rest = &body[0..n];
+    let m = raw.len() - 1;
+    let short = &raw[0..m];
     if key == SPACE {
-        return compose_with(k, key, tone, raw, rest, rest, out);
+        return compose_with(k, key, tone, raw, short, rest, short, rest, out);
     }
-    compose_with(k, key, tone, raw, rest, body, out)
+    compose_with(k, key, tone, raw, short, rest, raw, body, out)
 }
 
 // m without n, and 0 where it is smaller.
@@ -453,7 +458,7 @@ fn finish(
     m: usize,
     out: &mut [u8],
 ) -> TextAnswer
-    requires { ⌜ (m + 1 < length (now points)) × (m < 400) × (now raw ≡ encode (take m (now points) ++ (key ∷ []))) ⌝ }
+    requires { ⌜ (m + 1 < length (now points)) × (m < 400) × (now raw ≡ encode (take m (now points) ++ (key ∷ []))) × (key ≤ 0x7F) ⌝ }
     ensures { λ r. ⌜ textReply r (now (out .exit)) ≡ placed 0 (encode (edited unicode16 k edit key tone (take m (now (points .entry))))) (now (out .entry)) ⌝ }
 {
     match edit {

@@ -2,6 +2,7 @@
 pub mod compose;
 pub mod from_composed;
 pub mod from_raw;
+pub(crate) mod quick;
 
 use ji::lomaji::khin::Khin;
 use ji::reply::Refusal;

@@ -167,7 +167,7 @@ module _ (s : List ℕ) where
         }
 
 -- ── from_composed
-digit-ascii : (t : Tone) → allAscii (toneDigit t) ≡ true
+pub digit-ascii : (t : Tone) → allAscii (toneDigit t) ≡ true
 unfolding allAscii
 digit-ascii None = refl
 digit-ascii T1 = refl
@@ -180,7 +180,7 @@ digit-ascii T7 = refl
 digit-ascii T8 = refl
 digit-ascii T9 = refl
 
-khin-ascii : (k : Khin) → allAscii (khinKey k) ≡ true
+pub khin-ascii : (k : Khin) → allAscii (khinKey k) ≡ true
 unfolding allAscii
 khin-ascii No = refl
 khin-ascii Yes = refl

@@ -1,5 +1,9 @@
 // `compose`: the text of a syllable. The body is spelled by the rules, the tone mark put behind the tone letter, and the whole put into
 // compose's encoding. Most bodies are touched by no rule, which one walk tells.
+use crate::syllable::quick::compose_quick;
+use crate::syllable::quick::is_settled;
+use crate::syllable::quick::is_two;
+use crate::syllable::quick::joined;
 use ji::lomaji::khin::Khin;
 use ji::lomaji::tone_letter::Place;
 use ji::lomaji::tone_letter::tone_position;
@@ -15,9 +19,9 @@ use ji::unicode::CharLen;
 use ji::unicode::Decoded;
 use ji::unicode::Verdict;
 ghost use mathlib.Core.Path.{_≡_};
-ghost use mathlib.Core.Bool.{true};
+ghost use mathlib.Core.Bool.{true, false, _&&_};
 ghost use mathlib.Core.List.{List, [], _∷_, _++_};
-ghost use Prim.Native.Nat.{ℕ, _+_, _*_, _≤_, _<_};
+ghost use Prim.Native.Nat.{ℕ, _+_, _*_, _/_, _≤_, _<_};
 ghost use lib.ListN.{length, take, drop, getD};
 ghost use lib.Seq.{paste};
 ghost use Rattle.ji.specs.Unicode.{unicode16, listed};
@@ -27,7 +31,7 @@ ghost use Rattle.ji.specs.Written.{Written};
 ghost use Rattle.ji.specs.Reply.{placed, textReply, good, checkText};
 ghost use Rattle.ji.specs.Lomaji.Keys.{respell};
 ghost use Rattle.khiin.specs.Syllable.{vowelRules, nasalRules, oRules, endsNasal, nasalised, moved, spelled, khinText, markOf, encoded, compose, composeOf, composeCall};
-ghost use Rattle.khiin.specs.Compose.{Front, markText, isPair, oPairs, ePairs, takesDot, inserted, composedText, Composing};
+ghost use Rattle.khiin.specs.Compose.{Front, markText, isPair, apartFrom, oPairs, ePairs, takesDot, settledFrom, inserted, composedText, Composing};
 
 // The signs of a nasal vowel, small and capital. No code point of the table below the first of them is one.
 const SMALL_SIGN: u16 = 0x207F;
@@ -41,7 +45,7 @@ pub(crate) enum Mark {
 }
 
 // The mark of a tone.
-fn mark_of(tone: Tone) -> Mark
+pub(crate) fn mark_of(tone: Tone) -> Mark
     ensures { λ r. ⌜ markText r ≡ markOf tone ⌝ }
 {
     match tone {
@@ -95,7 +99,7 @@ fn lower(x: u16) -> u16
 }
 
 // The first letter of a pair of vowels that is replaced: o or e.
-fn is_first(c: u16) -> bool
+pub(crate) fn is_first(c: u16) -> bool
     ensures { λ r. ⌜ r ≡ listed (points "oOeE") c ⌝ }
 {
     match c {
@@ -105,7 +109,7 @@ fn is_first(c: u16) -> bool
 }
 
 // The second: o or u.
-fn is_second(c: u16) -> bool
+pub(crate) fn is_second(c: u16) -> bool
     ensures { λ r. ⌜ r ≡ listed (points "oOuU") c ⌝ }
 {
     match c {
@@ -136,7 +140,7 @@ fn takes_nasal(c: u16) -> bool
 }
 
 // Whether the text ends in such a letter and nn.
-fn ends_nasal(s: &[u16]) -> bool
+pub(crate) fn ends_nasal(s: &[u16]) -> bool
     ensures { λ r. ⌜ r ≡ endsNasal (now (s .entry)) ⌝ }
 {
     let n = s.len();
@@ -192,14 +196,98 @@ fn respell_e(s: &mut [u16], small: u16, capital: u16)
     replace_pair(s, 0x45, capital, capital, 0x324);
 }
 
+// Whether `x` is `a` or `b`.
+fn is_either(x: u16, a: u16, b: u16) -> bool
+    ensures { λ r. ⌜ r ≡ listed (a ∷ b ∷ []) x ⌝ }
+{
+    if a == x {
+        return true;
+    }
+    b == x
+}
+
+// Whether the second of two code points is `c` or `d`, and the first `a` or `b`.
+fn are_letters(before: u16, x: u16, a: u16, b: u16, c: u16, d: u16) -> bool
+    ensures { λ r. ⌜ r ≡ (listed (a ∷ b ∷ []) before && listed (c ∷ d ∷ []) x) ⌝ }
+{
+    if is_either(x, c, d) {
+        return is_either(before, a, b);
+    }
+    false
+}
+
+// Whether anywhere in `s` one of the letters `c` and `d` stands behind `a` or `b`.
+fn has_letters(s: &[u16], a: u16, b: u16, c: u16, d: u16) -> bool
+    ensures { λ r. ⌜ (r ≡ false → apartFrom (a ∷ b ∷ []) (c ∷ d ∷ []) 0 (now (s .entry)) ≡ true) ⌝ }
+{
+    let mut before: u16 = 0;
+    let mut i: usize = 0;
+    while i < s.len() {
+        let x = s[i];
+        if are_letters(before, x, a, b, c, d) {
+            return true;
+        }
+        before = x;
+        i += 1;
+    }
+    false
+}
+
+// Whether anywhere in `s` stands a pair of vowels that is replaced.
+fn has_pair(s: &[u16]) -> bool
+    ensures { λ r. ⌜ (r ≡ false → apartFrom (points "oOeE") (points "oOuU") 0 (now (s .entry)) ≡ true) ⌝ }
+{
+    let mut before: u16 = 0;
+    let mut i: usize = 0;
+    while i < s.len() {
+        let x = s[i];
+        if is_two(before, x) {
+            return true;
+        }
+        before = x;
+        i += 1;
+    }
+    false
+}
+
+// The rules for o, where one of them has something to do: one look tells.
+fn respell_any_o(s: &mut [u16], small: u16, capital: u16)
+    ensures { λ _. ⌜ now (s .exit) ≡ respell (oPairs small capital) (now (s .entry)) ⌝ }
+{
+    if has_letters(s, 0x6F, 0x4F, small, capital) {
+        respell_o(s, small, capital);
+        return;
+    }
+}
+
+// The same for e.
+fn respell_any_e(s: &mut [u16], small: u16, capital: u16)
+    ensures { λ _. ⌜ now (s .exit) ≡ respell (ePairs small capital) (now (s .entry)) ⌝ }
+{
+    if has_letters(s, 0x65, 0x45, small, capital) {
+        respell_e(s, small, capital);
+        return;
+    }
+}
+
 // The sixteen vowel rules.
+fn respell_groups(s: &mut [u16])
+    ensures { λ _. ⌜ now (s .exit) ≡ respell vowelRules (now (s .entry)) ⌝ }
+{
+    respell_any_o(s, 0x75, 0x55);
+    respell_any_o(s, 0x6F, 0x4F);
+    respell_any_e(s, 0x6F, 0x4F);
+    respell_any_e(s, 0x75, 0x55);
+}
+
+// The same, where one of them has something to do.
 fn respell_vowels(s: &mut [u16])
     ensures { λ _. ⌜ now (s .exit) ≡ respell vowelRules (now (s .entry)) ⌝ }
 {
-    respell_o(s, 0x75, 0x55);
-    respell_o(s, 0x6F, 0x4F);
-    respell_e(s, 0x6F, 0x4F);
-    respell_e(s, 0x75, 0x55);
+    if has_pair(s) {
+        respell_groups(s);
+        return;
+    }
 }
 
 // Whether at `i` stand `a` and `b`.
@@ -419,6 +507,44 @@ pub(crate) enum Composed {
     Text(CharLen),
 }
 
+// Puts `mark` behind the letter at `k` of the first `n` code points of `s`, in place, and copies what that gives to the front of `out`.
+fn put_marked(n: usize, k: usize, mark: u16, s: &mut [u16], out: &mut [u16]) -> usize
+    requires { ⌜ (k < n) × (n < length (now s)) × (n < length (now out)) ⌝ }
+    ensures { λ r. ⌜ Front (now (out .exit)) r (take (k + 1) (take n (now (s .entry))) ++ (mark ∷ drop (k + 1) (take n (now (s .entry))))) ⌝ }
+{
+    let m = n + 1;
+    insert_mark(&mut s[0..m], k + 1, mark);
+    put(&s[0..m], out, 0)
+}
+
+// The same, put into compose's encoding.
+fn encode_marked(n: usize, k: usize, mark: u16, s: &mut [u16], out: &mut [u16]) -> usize
+    requires { ⌜ (k < n) × (n < length (now s)) × (3 * n + 3 ≤ length (now out)) ⌝ }
+    ensures { λ r. ⌜ Front (now (out .exit)) r (encoded unicode16 (take (k + 1) (take n (now (s .entry))) ++ (mark ∷ drop (k + 1) (take n (now (s .entry)))))) ⌝ }
+{
+    let m = n + 1;
+    insert_mark(&mut s[0..m], k + 1, mark);
+    encode_into(&s[0..m], out)
+}
+
+// The same for a settled text: most letters have a composite with the mark, and give way to it; with 030D none has.
+fn settle_marked(n: usize, k: usize, mark: u16, s: &mut [u16], out: &mut [u16]) -> usize
+    requires { ⌜ (k < n) × (n < length (now s)) × (3 * n + 3 ≤ length (now out)) × (settledFrom 0 (take n (now s)) ≡ true) ⌝ }
+    ensures { λ r. ⌜ Front (now (out .exit)) r (encoded unicode16 (take (k + 1) (take n (now (s .entry))) ++ (mark ∷ drop (k + 1) (take n (now (s .entry)))))) ⌝ }
+{
+    let c = joined(s[k], mark);
+    if 1 < c {
+        s[k] = c;
+        return put(&s[0..n], out, 0);
+    }
+    if c == 1 {
+        if mark == 0x030D {
+            return put_marked(n, k, mark, s, out);
+        }
+    }
+    encode_marked(n, k, mark, s, out)
+}
+
 // The text of the first `n` code points of `s`, with `mark` behind their tone letter, at the front of `out`.
 fn compose_marked(n: usize, mark: u16, s: &mut [u16], out: &mut [u16]) -> Composed
     requires { ⌜ (n < length (now s)) × (3 * n + 3 ≤ length (now out)) ⌝ }
@@ -428,9 +554,10 @@ fn compose_marked(n: usize, mark: u16, s: &mut [u16], out: &mut [u16]) -> Compos
         Place::Nowhere => Composed::Raw,
         Place::At(place) => {
             let k = place.0;
-            let m = n + 1;
-            insert_mark(&mut s[0..m], k + 1, mark);
-            Composed::Text(CharLen(encode_into(&s[0..m], out)))
+            if is_settled(&s[0..n]) {
+                return Composed::Text(CharLen(settle_marked(n, k, mark, s, out)));
+            }
+            Composed::Text(CharLen(encode_marked(n, k, mark, s, out)))
         }
     }
 }
@@ -514,6 +641,36 @@ fn compose_body(
     }
 }
 
+// The same, by the quick way where the body allows it.
+fn compose_read(
+    raw: &[u8],
+    body: &[u8],
+    tone: Tone,
+    khin: Khin,
+    points: &mut [u16],
+    out: &mut [u8],
+) -> TextAnswer
+    requires { ⌜ (length (now body) ≤ 256) × (length (now body) ≤ length (now points) / 3 * 2) ⌝ }
+    ensures { λ r. ⌜ ((rawInput : List ℕ) → now (raw .entry) ≡ encode rawInput → textReply r (now (out .exit)) ≡ composeOf unicode16 tone khin (good rawInput) (checkText unicode16 (now (body .entry))) (now (out .entry))) ⌝ }
+{
+    match unicode::points(body, points) {
+        Decoded::Refused(why) => TextAnswer::Refused(why),
+        Decoded::Points(len) => {
+            let n = len.0;
+            compose_quick(raw, body, &points[0..n], tone, khin, out)
+        }
+    }
+}
+
+// The same for a short body, in a small buffer, since clearing this is quicker.
+fn compose_short(raw: &[u8], body: &[u8], tone: Tone, khin: Khin, out: &mut [u8]) -> TextAnswer
+    requires { ⌜ length (now body) ≤ 16 ⌝ }
+    ensures { λ r. ⌜ ((rawInput : List ℕ) → now (raw .entry) ≡ encode rawInput → textReply r (now (out .exit)) ≡ composeOf unicode16 tone khin (good rawInput) (checkText unicode16 (now (body .entry))) (now (out .entry))) ⌝ }
+{
+    let mut points = [0u16; 24];
+    compose_read(raw, body, tone, khin, &mut points, out)
+}
+
 // `compose`: the text of the syllable with this raw input, body, tone and khin, in `out`.
 pub fn compose(raw: &[u8], body: &[u8], tone: Tone, khin: Khin, out: &mut [u8]) -> TextAnswer
     ensures { λ r. ⌜ textReply r (now (out .exit)) ≡ composeCall unicode16 (now (raw .entry)) (now (body .entry)) tone khin (now (out .entry)) ⌝ }
@@ -522,9 +679,7 @@ pub fn compose(raw: &[u8], body: &[u8], tone: Tone, khin: Khin, out: &mut [u8]) 
         Verdict::Refused(why) => TextAnswer::Refused(why),
         Verdict::Good => {
             if body.len() <= 16 {
-                let mut a = [0u16; 105];
-                let mut b = [0u16; 35];
-                return compose_body(raw, body, tone, khin, &mut a, &mut b, out);
+                return compose_short(raw, body, tone, khin, out);
             }
             if 256 < body.len() {
                 return TextAnswer::Refused(Refusal::TooLong);

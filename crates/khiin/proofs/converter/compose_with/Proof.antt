@@ -24,16 +24,16 @@ is-tone-requires c κs = search needs
 shared-or-requires : tie.Need-shared-or-requires
 shared-or-requires c κs = search needs
 
-compose-points-requires : tie.Need-compose-points-requires
-compose-points-requires c κs = search needs
+compose-quick-requires : tie.Need-compose-quick-requires
+compose-quick-requires c κs = search needs
 
 same-length : tie.Need-same-length
 same-length c = search needs
 
 returns : tie.Need-returns
 returns c =
-    let a = c .before .before .before .before .before .before .before .before .before .before .before .before .before .before .before in
-    c .before .before .compose-points .ensures _ (a .pre .3)
+    let a = c .before .before .before .before .before .before .before .before .before .before .before .before .before .before .before .before .before in
+    c .before .before .compose-quick .ensures _ (a .pre .3)
     ∙ ap (λ (s : List ℕ). placed 0 (encode s) (a .args .out .now)) (composed-toned unicode16 (a .args .k) (a .args .key) (a .args .tone) (a .args .rest .now) _ _ _ (sym (c .before .before .before .before .before .before .before .before .before .before .takes-tone .ensures) ∙ c .before .before .before .before .before .before .before .before .before .if1 .taken) (c .before .before .before .before .before .before .before .before .lower .ensures) (c .before .before .before .before .before .before .before .key-to-tone .ensures) (sym (c .before .before .before .before .before .before .is-tone .ensures) ∙ c .before .before .before .before .before .if2 .taken) (c .before .before .before .before .shared-or .ensures))
 
 tone-to-key-requires : tie.Need-tone-to-key-requires
@@ -42,28 +42,28 @@ tone-to-key-requires c κs = search needs
 shared-or-requires-2 : tie.Need-shared-or-requires-2
 shared-or-requires-2 c κs = search needs
 
-compose-points-requires-2 : tie.Need-compose-points-requires-2
-compose-points-requires-2 c κs = search needs
+compose-quick-requires-2 : tie.Need-compose-quick-requires-2
+compose-quick-requires-2 c κs = search needs
 
 same-length-2 : tie.Need-same-length-2
 same-length-2 c = search needs
 
 returns-2 : tie.Need-returns-2
 returns-2 c =
-    let a = c .before .before .before .before .before .before .before .before .before .before .before .before .before .before .before .before in
-    c .before .before .compose-points2 .ensures _ (a .pre .3)
+    let a = c .before .before .before .before .before .before .before .before .before .before .before .before .before .before .before .before .before .before in
+    c .before .before .compose-quick2 .ensures _ (a .pre .3)
     ∙ ap (λ (s : List ℕ). placed 0 (encode s) (a .args .out .now)) (composed-joined unicode16 (a .args .k) (a .args .key) (a .args .tone) (a .args .rest .now) _ _ _ _ _ (sym (c .before .before .before .before .before .before .before .before .before .before .before .takes-tone .ensures) ∙ c .before .before .before .before .before .before .before .before .before .before .if1 .taken) (c .before .before .before .before .before .before .before .before .before .lower .ensures) (c .before .before .before .before .before .before .before .before .key-to-tone .ensures) (sym (c .before .before .before .before .before .before .before .is-tone .ensures) ∙ c .before .before .before .before .before .before .if2 .left) (c .before .before .before .before .before .tone-to-key .ensures) (a .pre .2) (c .before .before .before .before .shared-or2 .ensures))
 
-compose-points-requires-3 : tie.Need-compose-points-requires-3
-compose-points-requires-3 c κs = search needs
+compose-quick-requires-3 : tie.Need-compose-quick-requires-3
+compose-quick-requires-3 c κs = search needs
 
 same-length-3 : tie.Need-same-length-3
 same-length-3 c = search needs
 
 returns-3 : tie.Need-returns-3
 returns-3 c =
-    let a = c .before .before .before .before .before .before .before .before .before .before in
-    c .before .before .compose-points3 .ensures _ (a .pre .3)
+    let a = c .before .before .before .before .before .before .before .before .before .before .before .before in
+    c .before .before .compose-quick3 .ensures _ (a .pre .3)
     ∙ ap (λ (s : List ℕ). placed 0 (encode s) (a .args .out .now)) (composed-bare unicode16 (a .args .k) (a .args .key) (a .args .tone) (a .args .rest .now) _ (sym (c .before .before .before .before .before .takes-tone .ensures) ∙ c .before .before .before .before .if1 .left) (a .pre .2))
 
 pub compose-with-spec : {M : Type 1} → statement M
@@ -75,14 +75,14 @@ compose-with-spec =
     key-to-tone-requires
     is-tone-requires
     shared-or-requires
-    compose-points-requires
+    compose-quick-requires
     same-length
     returns
     tone-to-key-requires
     shared-or-requires-2
-    compose-points-requires-2
+    compose-quick-requires-2
     same-length-2
     returns-2
-    compose-points-requires-3
+    compose-quick-requires-3
     same-length-3
     returns-3)

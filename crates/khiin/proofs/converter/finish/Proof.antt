@@ -99,7 +99,7 @@ part-compose-step-end : tie.Need-part-compose-step-end
 part-compose-step-end c = let a = c .before .before .before .before .before .before in omega (arith, length-set (a .args .points .now) (a .args .m) (a .args .key), a .pre .0)
 
 compose-step-requires : tie.Need-compose-step-requires
-compose-step-requires c κs = let a = c .before .before .before .before .before .before .before .before in body-fits (a .args .points .now) (a .args .m) (a .args .key) (a .args .raw .now) (a .pre .0) (a .pre .1) (a .pre .2)
+compose-step-requires c κs = let a = c .before .before .before .before .before .before .before .before in let p = body-fits (a .args .points .now) (a .args .m) (a .args .key) (a .args .raw .now) (a .pre .0) (a .pre .1) (a .pre .2) in (p .0, p .1, p .2, p .3, a .pre .3)
 
 same-length : tie.Need-same-length
 same-length c = search needs

@@ -195,7 +195,7 @@ part-finish-end : tie.Need-part-finish-end
 part-finish-end c = let d = c .before .before .before .before .before .before in omega (arith, room-left d, length-set (bytesIn d) (resultOf d .len .0) (begin (strip-at d) .args .key))
 
 finish-requires : tie.Need-finish-requires
-finish-requires c κs = let d = c .before .before .before .before .before .before .before .before .before in let n = c .before .before .before .before .before .count .given in (points-left d (n .0 .0) (n .1), points-few d (n .0 .0) (n .1), raw-is d (n .0 .0) (n .1))
+finish-requires c κs = let d = c .before .before .before .before .before .before .before .before .before in let n = c .before .before .before .before .before .count .given in (points-left d (n .0 .0) (n .1), points-few d (n .0 .0) (n .1), raw-is d (n .0 .0) (n .1), begin (strip-at d) .pre .0)
 
 same-length : tie.Need-same-length
 same-length c = search needs

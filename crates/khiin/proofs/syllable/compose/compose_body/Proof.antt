@@ -1,41 +1,19 @@
 use mathlib.Core.Path.{_≡_, sym, ap, _∙_}
 use mathlib.Core.Bool.{false}
-use mathlib.Core.List.{List, [], _∷_}
+use mathlib.Core.List.{List}
 use Prim.Native.Nat.{ℕ, _+_, _*_, _/_, _≤_}
-use lib.ListN.{length, length-append}
-use Rattle.ji.specs.Unicode.{unicode16, spread}
-use Rattle.ji.specs.Utf8.{bytesOf, encode}
-use Rattle.ji.specs.Written.{Written}
-use Rattle.ji.specs.Reading.{PointsReading}
+use Rattle.ji.specs.Unicode.{unicode16}
+use Rattle.ji.specs.Utf8.{encode}
 use Rattle.ji.specs.Reply.{placed, Checked, good, bad, checkText}
-use Rattle.ji.specs.declared.unicode.Decoded.{Decoded}
-use Rattle.ji.specs.declared.unicode.Decoded.the-variants.{Points}
 use Rattle.ji.proofs.Writing.{written-length, written-take}
 use Rattle.ji.proofs.Replies.{check-within}
 use Rattle.ji.proofs.Readings.{told}
-use Rattle.ji.proofs.unicode.Bytes.{encode-cons, bytes-some}
-use Rattle.ji.proofs.unicode.Checked.{check-passed}
 use Rattle.khiin.specs.Syllable.{compose, composeOf}
+use Rattle.khiin.proofs.syllable.compose.Reading.{points-fewer, read}
 use borrow.Author.Needs.{needs}
 use native.Mathlib.Omega.{arith}
 use Rattle.khiin.proofs.syllable.compose.compose_body.Statement.{statement}
 use Rattle.khiin.proofs.syllable.compose.compose_body.Tie as tie
-
--- a text has no more code points than bytes
-fewer : (s : List ℕ) → length s ≤ length (encode s)
-fewer [] = omega arith
-fewer (x ∷ s) = omega (arith, ap length (encode-cons x s), length-append (bytesOf x) (encode s), bytes-some x, fewer s)
-
-points-fewer : (bytes s : List ℕ) → checkText unicode16 bytes ≡ good s → length s ≤ length bytes
-unfolding checkText
-points-fewer bytes s e = omega (arith, fewer s, ap length (check-passed unicode16 256 bytes s e .written))
-
--- the code points that were read
-read : (s before after : List ℕ) {n : ℕ} {answer : Decoded} → length s ≤ 256 → length s ≤ length before / 3 * 2 → answer ≡ Points (record { 0 = n }) → PointsReading unicode16 s before after answer → (u : List ℕ) × (checkText unicode16 s ≡ good u) × Written before after n u
-unfolding spread
-read s before after h fits e r =
-    let v = told unicode16 s before after false e (r .0 fits) in
-    (v .0, check-within unicode16 s h ∙ v .1, v .2)
 
 points-requires : tie.Need-points-requires
 points-requires c κs = search needs

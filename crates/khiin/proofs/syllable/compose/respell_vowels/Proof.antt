@@ -1,39 +1,44 @@
-use mathlib.Core.Path.{ap, _∙_}
-use Rattle.ji.specs.Lomaji.Keys.{respell}
-use Rattle.khiin.specs.Compose.{oPairs, ePairs}
+use mathlib.Core.Path.{sym}
+use Rattle.khiin.proofs.syllable.compose.Pairs.{vowels-apart}
 use borrow.Author.Needs.{needs}
 use native.Mathlib.Omega.{arith}
+use borrow.Author.Needs.{needs}
 use Rattle.khiin.proofs.syllable.compose.respell_vowels.Statement.{statement}
 use Rattle.khiin.proofs.syllable.compose.respell_vowels.Tie as tie
 
-respell-o-requires : tie.Need-respell-o-requires
-respell-o-requires c κs = search needs
+-- src/syllable/compose.rt:287:8
+has-pair-requires : tie.Need-has-pair-requires
+has-pair-requires c κs = search needs
 
-respell-o-requires-2 : tie.Need-respell-o-requires-2
-respell-o-requires-2 c κs = search needs
+-- src/syllable/compose.rt:288:9
+respell-groups-requires : tie.Need-respell-groups-requires
+respell-groups-requires c κs = search needs
 
-respell-e-requires : tie.Need-respell-e-requires
-respell-e-requires c κs = search needs
-
-respell-e-requires-2 : tie.Need-respell-e-requires-2
-respell-e-requires-2 c κs = search needs
-
+-- src/syllable/compose.rt:289:9
 same-length : tie.Need-same-length
 same-length c = search needs
 
+-- src/syllable/compose.rt:289:9
 returns : tie.Need-returns
-returns c =
-    c .before .before .respell-e2 .ensures
-    ∙ ap (respell (ePairs 0x75 0x55))
-    (c .before .before .before .before .before .before .respell-e .ensures ∙ ap (respell (ePairs 0x6F 0x4F)) (c .before .before .before .before .before .before .before .before .before .before .respell-o2 .ensures ∙ ap (respell (oPairs 0x6F 0x4F)) (c .before .before .before .before .before .before .before .before .before .before .before .before .before .before .respell-o .ensures)))
+returns c = search needs
+
+-- src/syllable/compose.rt:284:1
+same-length-2 : tie.Need-same-length-2
+same-length-2 c = search needs
+
+-- src/syllable/compose.rt:284:1
+returns-2 : tie.Need-returns-2
+returns-2 c =
+    let a = c .before .before .before .before .args in
+    sym (vowels-apart (a .s .now) (c .before .has-pair .ensures (c .if1 .left)))
 
 pub respell-vowels-spec : {M : Type 1} → statement M
 respell-vowels-spec =
     tie.close
     (tie.spec
-    respell-o-requires
-    respell-o-requires-2
-    respell-e-requires
-    respell-e-requires-2
+    has-pair-requires
+    respell-groups-requires
     same-length
-    returns)
+    returns
+    same-length-2
+    returns-2)
