@@ -11,7 +11,7 @@ use Rattle.ji.specs.Lomaji.Keys.{keyed, keys}
 use Rattle.ji.specs.declared.lomaji.keys.Kind.{Kind}
 use Rattle.ji.specs.declared.lomaji.keys.Kind.the-variants.{Detoned, Numeric, Telex}
 use Rattle.khiin_entries.specs.KeySequence.{split, holdsDot, alone, forms, keyings}
-use Rattle.examples.specs.Entries.{taioanNumeric, taioanTelex, taioanDetoned, boo, booAlone, booBehind}
+use Rattle.examples.specs.Entries.{taioanNumeric, taioanTelex, taioanDetoned, sixTelex, boo, booAlone, booBehind}
 
 -- a kind, an entry, and its list
 abbrev Example : Type 0
@@ -26,9 +26,10 @@ lists-right :
     ((Numeric, (points "tâi oân", taioanNumeric))
     ∷ (Telex, (points "tâi oân", taioanTelex))
     ∷ (Detoned, (points "tâi oân", taioanDetoned))
+    ∷ (Telex, (points "ã", sixTelex))
     ∷ (Numeric, (boo, booAlone))
     ∷ (Numeric, (points "a " ++ boo, booBehind))
     ∷ (Numeric, ([], points "1" ∷ []))
     ∷ [])
 unfolding same mappingIn classIn decomposition combiningClass pass passes full unicode16 mappings16 classes16 listed lower begins replaceFrom replaceAll bytesOf encode reorderable insert order nfd markTone isToneMark withoutMarks droppedMarks lastTone endsIn unmarkedTone stripped keyed keys split holdsDot alone forms keyings
-lists-right = (refl, (refl, (refl, (refl, (refl, (refl, tt))))))
+lists-right = (refl, (refl, (refl, (refl, (refl, (refl, (refl, tt)))))))

@@ -13,6 +13,10 @@ taioanTelex = points "tailoanl" ∷ points "tailoan" ∷ points "taioanl" ∷ po
 abbrev pub taioanDetoned : List (List ℕ)
 taioanDetoned = points "taioan" ∷ []
 
+-- tone 6 has the key 6 in telex keyings, and not x
+abbrev pub sixTelex : List (List ℕ)
+sixTelex = points "a6" ∷ []
+
 -- a part that holds 0358: alone it has two numeric choices, "plain, `_oo`", and behind another part four, "plain, `_oo`, detoned, detoned `_oo`"
 abbrev pub boo : List ℕ
 boo = marked "bó" 0x0358

@@ -1,3 +1,4 @@
+pub mod Records
 pub mod Compose
 pub mod Telex
 pub mod Entries
