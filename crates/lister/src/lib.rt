@@ -47,8 +47,11 @@ fn print_listing(entry: &[u8]) {
     }
 }
 
-// An entry has at most 1,024 bytes: one more byte than that, and a newline, is enough to see that it is too long.
-pub fn run() {
+// Reads an entry and prints its listing. An entry has at most 1,024 bytes: one more byte than that, and a newline, is enough to see that it is too long.
+// There is no argument, result or buffer of which the contract could say more.
+pub fn run()
+    ensures { λ r. ⌜ r ≡ tt ⌝ }
+{
     let mut text = [0u8; 1026];
     let n = io::read_full(0, &mut text);
     print_listing(without_newline(&text[0..n]));
