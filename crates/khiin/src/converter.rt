@@ -1,4 +1,5 @@
 // The telex step: `convert_to_telex`, its text only.
+use crate::syllable::compose::lower;
 use crate::syllable::quick::compose_quick;
 use ji::lomaji::khin::Khin;
 use ji::lomaji::strip;
@@ -18,7 +19,7 @@ ghost use mathlib.Core.List.{List, [], _∷_, _++_};
 ghost use Prim.Native.Nat.{ℕ, _+_, _-_, _*_, _/_, _≤_, _<_};
 ghost use lib.ListN.{length, take};
 ghost use Rattle.ji.specs.Unicode.{unicode16, listed};
-ghost use Rattle.ji.specs.Text.{points as pointsOf, lower as lowerOf};
+ghost use Rattle.ji.specs.Text.{points as pointsOf};
 ghost use Rattle.ji.specs.Utf8.{decode, encode};
 ghost use Rattle.ji.specs.Reply.{placed, textCall, textReply, good, checkPoints};
 ghost use Rattle.ji.specs.Lomaji.ToneLetter.{toneLetter, isSome};
@@ -137,19 +138,6 @@ fn keys_in(mode: ToneMode, k: ToneKeys) -> ToneKeys
         },
         ToneMode::Telex => k,
     }
-}
-
-// An ASCII letter in lower case.
-fn lower(x: u16) -> u16
-    ensures { λ r. ⌜ r ≡ lowerOf x ⌝ }
-{
-    if x < b'A' as u16 {
-        return x;
-    }
-    if (b'Z' as u16) < x {
-        return x;
-    }
-    x + 32
 }
 
 // The tone of a key, None of any other.

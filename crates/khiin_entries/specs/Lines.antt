@@ -4,6 +4,7 @@ use mathlib.Core.List.{List, [], _∷_, _++_}
 use Prim.Native.Nat.{ℕ, _+_, _-_, _≤_, _<_}
 use lib.ListN.{length, take, drop}
 use Rattle.ji.specs.Unicode.{unicode16, pickNumber}
+use Rattle.ji.specs.Text.{point}
 use Rattle.ji.specs.Utf8.{bytes}
 use Rattle.ji.specs.Reply.{refusalNumber}
 use Rattle.ji.specs.Lomaji.Dot.{dotIn}
@@ -34,9 +35,9 @@ dottedIn (w ∷ ws) = pickNumber (dotIn w) 1 0 + dottedIn ws
 
 -- the letter of a kind
 abbrev pub letterOf : Kind → ℕ
-letterOf Numeric = 0x4E
-letterOf Telex = 0x54
-letterOf Detoned = 0x44
+letterOf Numeric = point "N"
+letterOf Telex = point "T"
+letterOf Detoned = point "D"
 
 -- the line of the keying at a position: the kind's letter, the position and the keying, with a space between neighbours
 unfoldable pub lineIn : ℕ → List ℕ → List (List ℕ) → List (List ℕ) → List ℕ → ℕ → ℕ → List ℕ

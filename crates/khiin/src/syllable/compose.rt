@@ -86,7 +86,7 @@ fn at(s: &[u16], i: usize) -> u16
 }
 
 // An ASCII letter in lower case.
-fn lower(x: u16) -> u16
+pub(crate) fn lower(x: u16) -> u16
     ensures { λ r. ⌜ r ≡ lowerOf x ⌝ }
 {
     if x < 0x41 {
