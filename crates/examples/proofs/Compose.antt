@@ -3,13 +3,14 @@ use mathlib.Core.Path.{_≡_, refl}
 use mathlib.Core.List.{List, [], _∷_, _++_}
 use Prim.Native.Nat.{ℕ}
 use Rattle.ji.specs.Unicode.{unicode16, mappings16, classes16, exclusions16, mappingIn, classIn, decomposition, combiningClass, isComposite, compositeIn, composite, pass, passes, full, same, listed}
-use Rattle.ji.specs.Text.{points, marked, lower, begins, replaceFrom, replaceAll}
+use Rattle.ji.specs.Text.{points, marked, lower, begins, replaceFrom, replaceAll, butLast, last}
 use Rattle.ji.specs.Nfd.{reorderable, insert, order, nfd}
 use Rattle.ji.specs.Nfc.{behind, under, orKept, reversed, absorb, composeFrom, compose as joined, nfc}
 use Rattle.ji.specs.Lomaji.ToneLetter.{firstPlace, searched, toneLetter}
 use Rattle.ji.specs.declared.tone.Tone.the-variants.{T2}
 use Rattle.ji.specs.declared.lomaji.khin.Khin.the-variants.{Yes}
-use Rattle.khiin.specs.Syllable.{raw, keyTone, last, butLast, fromRaw, isNasalEnd, endsNasal, nasalised, moved, spelled, encoded, markOf, compose}
+use Rattle.khiin_records.specs.Syllable.{raw, keyTone, fromRaw}
+use Rattle.khiin.specs.Syllable.{isNasalEnd, endsNasal, nasalised, moved, spelled, encoded, markOf, compose}
 use Rattle.examples.specs.Compose.{composedKeys, spelledBodies}
 
 -- what compose writes from the record that from_raw makes of these keys

@@ -3,7 +3,7 @@ use mathlib.Core.Path.{_≡_, refl}
 use mathlib.Core.List.{List, [], _∷_}
 use Prim.Native.Nat.{ℕ}
 use Rattle.ji.specs.Unicode.{unicode16, mappings16, classes16, mappingIn, classIn, decomposition, combiningClass, pass, passes, full, same, listed}
-use Rattle.ji.specs.Text.{points, marked, lower, begins, replaceFrom, replaceAll}
+use Rattle.ji.specs.Text.{points, marked, lower, begins, replaceFrom, replaceAll, butLast, last}
 use Rattle.ji.specs.Utf8.{bytesOf, encode}
 use Rattle.ji.specs.Nfd.{reorderable, insert, order, nfd}
 use Rattle.ji.specs.Lomaji.Strip.{markTone, isToneMark, withoutMarks, droppedMarks, lastTone, endsIn, unmarkedTone, stripped}
@@ -12,7 +12,7 @@ use Rattle.ji.specs.declared.tone.Tone.{Tone}
 use Rattle.ji.specs.declared.tone.Tone.the-variants.{None, T1, T2, T4, T8}
 use Rattle.ji.specs.declared.lomaji.khin.Khin.{Khin}
 use Rattle.ji.specs.declared.lomaji.khin.Khin.the-variants.{No, Yes}
-use Rattle.khiin.specs.Syllable.{Syllable, keyTone, last, butLast, fromRaw, fromComposed}
+use Rattle.khiin_records.specs.Syllable.{Syllable, keyTone, fromRaw, fromComposed}
 use Rattle.examples.specs.Records.{Raw, fromKeys, Composed, candidates}
 
 abbrev RawRight : List Raw → Type 0

@@ -3,14 +3,14 @@ use mathlib.Core.Path.{_≡_, refl}
 use mathlib.Core.List.{List, [], _∷_, _++_}
 use Prim.Native.Nat.{ℕ}
 use Rattle.ji.specs.Unicode.{unicode16, mappings16, classes16, exclusions16, mappingIn, classIn, decomposition, combiningClass, isComposite, compositeIn, composite, pass, passes, full, same, listed}
-use Rattle.ji.specs.Text.{points, marked, point, lower, begins, replaceFrom, replaceAll}
+use Rattle.ji.specs.Text.{points, marked, point, lower, begins, replaceFrom, replaceAll, butLast, last}
 use Rattle.ji.specs.Utf8.{bytesOf, encode}
 use Rattle.ji.specs.Nfd.{reorderable, insert, order, nfd}
 use Rattle.ji.specs.Nfc.{behind, under, orKept, reversed, absorb, composeFrom, nfc}
 use Rattle.ji.specs.Nfc.{compose as composition}
 use Rattle.ji.specs.Lomaji.Strip.{markTone, isToneMark, withoutMarks, droppedMarks, lastTone, endsIn, unmarkedTone, stripped}
 use Rattle.ji.specs.Lomaji.ToneLetter.{firstPlace, searched, toneLetter, hasToneLetter}
-use Rattle.khiin.specs.Syllable.{last, butLast, isNasalEnd, endsNasal, nasalised, moved, spelled, encoded, markOf, compose}
+use Rattle.khiin.specs.Syllable.{isNasalEnd, endsNasal, nasalised, moved, spelled, encoded, markOf, compose}
 use Rattle.khiin.specs.Converter.{keyToTone, sharedTone, endsWith, repeatsTone, opensNasal, opensDot, opensO, opensU, endsInStop, sharedOr, composedStep, step, telex}
 use Rattle.khiin.specs.declared.converter.ToneKeys.{ToneKeys}
 use Rattle.khiin.specs.declared.converter.ToneMode.{ToneMode}

@@ -4,14 +4,25 @@ use mathlib.Core.Bool.{Bool}
 use mathlib.Core.List.{List}
 use mathlib.Core.Option.{Option}
 use Prim.Native.Nat.{ℕ, _≤_, _<_}
+use native.Mathlib.Omega.{arith}
 use lib.ListN.{length}
 use borrow.Author.Tests.{le-leb, lt-leb}
 use Rattle.ucd.specs.Table.{Table}
 use Rattle.ji.specs.Written.{Written}
 use Rattle.ji.specs.Utf8.{decode, encode}
-use Rattle.ji.specs.Reply.{Reply, refused, over, answered, pickReply, placed, Checked, good, bad, pickChecked, checkPoints, checkWithin, checkText, textOf, textCall}
+use Rattle.ji.specs.Reply.{Reply, refusalNumber, refused, over, answered, pickReply, placed, Checked, good, bad, pickChecked, checkPoints, checkWithin, checkText, textOf, textCall}
 use Rattle.ji.specs.declared.reply.Refusal.{Refusal}
-use Rattle.ji.specs.declared.reply.Refusal.the-variants.{TooLong, NoRoom}
+use Rattle.ji.specs.declared.reply.Refusal.the-variants.{Argument, TooLong, IllFormed, OutsideTable, Parts, Position, NoRoom}
+
+-- no refusal has the number 0
+pub refusal-some : (why : Refusal) → 0 < refusalNumber why
+refusal-some Argument = omega arith
+refusal-some TooLong = omega arith
+refusal-some IllFormed = omega arith
+refusal-some OutsideTable = omega arith
+refusal-some Parts = omega arith
+refusal-some Position = omega arith
+refusal-some NoRoom = omega arith
 
 module _ (tone : ℕ) (output buffer : List ℕ) where
   pub placed-not : length buffer < length output → refused NoRoom buffer ≡ placed tone output buffer

@@ -1,4 +1,5 @@
 pub mod Laws
 pub mod Reader
 pub mod Checked
+pub mod Ascii
 pub mod Bytes

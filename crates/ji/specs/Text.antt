@@ -6,7 +6,7 @@ use Prim.Native.Nat.{ℕ, zero, suc, _+_, _-_}
 use Prim.Native.String.{String}
 use Prim.Native.String.{[] as empty, _∷_ as _:>_}
 use lib.Dec.{leb, eqb}
-use lib.ListN.{length, getD}
+use lib.ListN.{length, take, getD}
 use Rattle.ucd.specs.Table.{pickNumber, pickText}
 
 -- the code points of a quoted text
@@ -29,6 +29,19 @@ within lo hi x = leb lo x && leb x hi
 -- an ASCII letter in lower case
 unfoldable pub lower : ℕ → ℕ
 lower x = pickNumber (within (point "A") (point "Z") x) (x + 32) x
+
+-- the last code point, 0 of an empty text
+unfoldable pub last : List ℕ → ℕ
+last s = getD s (length s - 1) 0
+
+-- s without its last n code points
+unfoldable pub butLast : ℕ → List ℕ → List ℕ
+butLast n s = take (length s - n) s
+
+-- no byte, or no code point, is above 7F
+unfoldable pub allAscii : List ℕ → Bool
+allAscii [] = true
+allAscii (b ∷ s) = leb b 0x7F && allAscii s
 
 -- s begins with p
 unfoldable pub begins : List ℕ → List ℕ → Bool

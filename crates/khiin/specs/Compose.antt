@@ -7,9 +7,9 @@ use Prim.Native.Nat.{ℕ, _+_, _-_, _≤_, _<_}
 use lib.Dec.{ltb, eqb}
 use lib.ListN.{length, take, drop, getD}
 use Rattle.ji.specs.Unicode.{Table, unicode16, listed, composite}
-use Rattle.ji.specs.Text.{points, marked, begins}
+use Rattle.ji.specs.Text.{points, marked, begins, allAscii}
 use Rattle.ji.specs.Lomaji.ToneLetter.{toneLetter}
-use Rattle.khiin.specs.Syllable.{oRules, spelled, encoded, allAscii}
+use Rattle.khiin.specs.Syllable.{oRules, spelled, encoded}
 use Rattle.khiin.specs.declared.syllable.compose.Mark.{Mark}
 use Rattle.khiin.specs.declared.syllable.compose.Mark.the-variants.{Nothing, Point}
 use Rattle.khiin.specs.declared.syllable.compose.Composed.{Composed}

@@ -5,7 +5,7 @@ use Prim.Native.Nat.{ℕ, _-_}
 use lib.Dec.{eqb}
 use lib.ListN.{length, drop}
 use Rattle.ji.specs.Unicode.{Table, pickText, pickNumber, listed, same}
-use Rattle.ji.specs.Text.{points, marked, point, within, lower}
+use Rattle.ji.specs.Text.{points, marked, point, within, lower, butLast, last}
 use Rattle.ji.specs.Tone.{toneNumber, pickTone, isTone}
 use Rattle.ji.specs.Reply.{Reply, refused, pickReply, textCall}
 use Rattle.ji.specs.Lomaji.Strip.{toneIn, strip}
@@ -15,7 +15,7 @@ use Rattle.ji.specs.declared.reply.Refusal.the-variants.{Argument}
 use Rattle.ji.specs.declared.tone.Tone.{Tone}
 use Rattle.ji.specs.declared.tone.Tone.the-variants.{None, T1, T2, T3, T4, T5, T6, T7, T8, T9}
 use Rattle.ji.specs.declared.lomaji.khin.Khin.the-variants.{No}
-use Rattle.khiin.specs.Syllable.{last, butLast, compose}
+use Rattle.khiin.specs.Syllable.{compose}
 use Rattle.khiin.specs.declared.converter.ToneKeys.{ToneKeys}
 use Rattle.khiin.specs.declared.converter.ToneMode.{ToneMode}
 use Rattle.khiin.specs.declared.converter.ToneMode.the-variants.{Numeric, Telex}

@@ -1,6 +1,4 @@
 pub mod Syllable
-pub mod Records
+pub mod Compose
 pub mod Converter
 pub mod Telex
-pub mod Compose
-pub mod RawBytes

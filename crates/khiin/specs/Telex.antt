@@ -4,12 +4,11 @@ use mathlib.Core.List.{List, [], _∷_, _++_}
 use Prim.Native.Nat.{ℕ}
 use lib.Dec.{eqb}
 use Rattle.ji.specs.Unicode.{Table, pickText}
-use Rattle.ji.specs.Text.{point, lower}
+use Rattle.ji.specs.Text.{point, lower, butLast}
 use Rattle.ji.specs.Tone.{isTone}
 use Rattle.ji.specs.Lomaji.Strip.{strip}
 use Rattle.ji.specs.Lomaji.ToneLetter.{toneLetter, isSome}
 use Rattle.ji.specs.declared.tone.Tone.{Tone}
-use Rattle.khiin.specs.Syllable.{butLast}
 use Rattle.khiin.specs.Converter.{keyToTone, repeatsTone, opensNasal, opensDot, opensO, opensU, eLike, isFirst, toned, joined, bare, step}
 use Rattle.khiin.specs.declared.converter.ToneKeys.{ToneKeys}
 use Rattle.khiin.specs.declared.converter.Edit.{Edit}

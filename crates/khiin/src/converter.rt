@@ -19,11 +19,10 @@ ghost use mathlib.Core.List.{List, [], _∷_, _++_};
 ghost use Prim.Native.Nat.{ℕ, _+_, _-_, _*_, _/_, _≤_, _<_};
 ghost use lib.ListN.{length, take};
 ghost use Rattle.ji.specs.Unicode.{unicode16, listed};
-ghost use Rattle.ji.specs.Text.{points as pointsOf};
+ghost use Rattle.ji.specs.Text.{points as pointsOf, butLast, last};
 ghost use Rattle.ji.specs.Utf8.{decode, encode};
 ghost use Rattle.ji.specs.Reply.{placed, textCall, textReply, good, checkPoints};
 ghost use Rattle.ji.specs.Lomaji.ToneLetter.{toneLetter, isSome};
-ghost use Rattle.khiin.specs.Syllable.{last, butLast};
 ghost use Rattle.khiin.specs.Converter.{keysIn, keyToTone, toneToKey, isSetting, settingsFit, sharedOr, endsInStop, repeatsTone, eLike, grown, isFirst, telexCall};
 ghost use Rattle.khiin.specs.Telex.{editBy, editAt, editOf, composedOf, edited, stepOf};
 

@@ -10,7 +10,7 @@ use Rattle.ji.specs.Nfd.{nfd}
 use Rattle.ji.specs.Nfc.{nfc}
 use Rattle.ji.specs.Lomaji.Strip.{stripCall}
 use Rattle.ji.specs.Lomaji.ToneLetter.{toneLetterCall, hasToneLetterCall}
-use Rattle.khiin.specs.Syllable.{fromRawCall, candidateCall}
+use Rattle.khiin_records.specs.Syllable.{fromRawCall, candidateCall}
 use Rattle.robinflint.specs.Arguments.{composeNumbered, keyingNumbered, telexNumbered}
 use Rattle.workbench.specs.Khin.{khinCall}
 use Rattle.workbench.specs.Keys.{keysCall}

@@ -13,15 +13,15 @@ use ji::reply::Refusal;
 use ji::tone;
 use khiin::converter;
 use khiin::syllable::compose;
-use khiin::syllable::from_composed;
-use khiin::syllable::from_raw;
 use khiin_entries::key_sequence;
+use khiin_records::from_composed;
+use khiin_records::from_raw;
 ghost use mathlib.Core.Path.{_≡_};
 ghost use mathlib.Core.List.{[]};
 ghost use Rattle.ji.specs.Unicode.{unicode16};
 ghost use Rattle.ji.specs.Lomaji.Strip.{stripCall};
 ghost use Rattle.ji.specs.Lomaji.ToneLetter.{toneLetterCall};
-ghost use Rattle.khiin.specs.Syllable.{fromRawCall, candidateCall};
+ghost use Rattle.khiin_records.specs.Syllable.{fromRawCall, candidateCall};
 ghost use Rattle.robinflint.specs.Arguments.{composeNumbered, telexNumbered, keyingNumbered};
 ghost use Rattle.robinflint.specs.Reply.{replyOf};
 

@@ -4,14 +4,14 @@ use ji::reply;
 use ji::reply::Refusal;
 use ji::reply::TextAnswer;
 use ji::tone;
-use khiin::syllable::Recorded;
 use khiin_entries::key_sequence::Keying;
+use khiin_records::Recorded;
 ghost use mathlib.Core.Path.{_≡_};
 ghost use mathlib.Core.List.{List, []};
 ghost use Prim.Native.Nat.{ℕ};
 ghost use Rattle.ji.specs.Reply.{refused, found, textReply};
 ghost use Rattle.khiin_entries.specs.KeySequence.{keyingReply};
-ghost use Rattle.khiin.specs.Syllable.{recordReply};
+ghost use Rattle.khiin_records.specs.Syllable.{recordReply};
 ghost use Rattle.robinflint.specs.Reply.{replyOf};
 
 // 0 or the refusal's number, and the numbers that a call gives, each 0 where it gives none.

@@ -15,6 +15,7 @@ use Rattle.ucd.proofs.Unicode16.{member-below}
 use Rattle.ji.specs.Utf8.{decode, encode}
 use Rattle.ji.specs.Unicode.{members}
 use Rattle.ji.specs.Reply.{Checked, good, bad, pickChecked, checkPoints, checkWithin}
+use Rattle.ji.specs.declared.reply.Refusal.{Refusal}
 use Rattle.ji.specs.declared.reply.Refusal.the-variants.{TooLong, OutsideTable}
 use Rattle.ji.proofs.Bools.{either}
 use Rattle.ji.proofs.Replies.{within-points}
@@ -25,12 +26,21 @@ use Rattle.ji.proofs.utf8.RoundTrip.{decode-encode, encode-decode}
 pub read-back : (s : List ℕ) → members unicode16 s ≡ true → decode (encode s) ≡ some s
 read-back s h = decode-encode s (members-all unicode16 (λ x. x < 0xD800) (λ c m. member-below c (true-passes _ m)) s h)
 
--- and pass the check
+-- and are that text
+pub points-good : (s : List ℕ) → members unicode16 s ≡ true → checkPoints unicode16 (decode (encode s)) ≡ good s
+points-good s h = ap (checkPoints unicode16) (read-back s h) ∙ ap (λ (b : Bool). pickChecked b (good s) (bad OutsideTable)) h
+
+-- so that they pass the check
 pub check-passes : (limit : ℕ) (s : List ℕ) → members unicode16 s ≡ true → length (encode s) ≤ limit → checkWithin unicode16 limit (encode s) ≡ good s
 check-passes limit s h short =
-    within-points unicode16 (encode s) limit short
-    ∙ ap (checkPoints unicode16) (read-back s h)
-    ∙ ap (λ (b : Bool). pickChecked b (good s) (bad OutsideTable)) h
+    within-points unicode16 (encode s) limit short ∙ points-good s h
+
+-- a text is good in one way only, and not bad
+pub good-same : {s u : List ℕ} → good s ≡ good u → s ≡ u
+good-same e = cc
+
+pub good-not-bad : {s : List ℕ} {why : Refusal} → good s ≡ bad why → ⊥
+good-not-bad e = let z : _≡_ {A = ℕ} 0 1 = cc in omega arith
 
 -- what was found good is short enough, and the bytes of a text of the table
 pub record Passed (t : Table) (limit : ℕ) (bytes s : List ℕ) : Type 0 where

@@ -12,7 +12,7 @@ use lib.Dec.{eqb}
 use lib.ListN.{length, take, drop, getD, set, drop-of-length-le, length-append}
 use lib.Seq.{length-take-le, take-length, take-take, take-at, take-suc-set, getD-take}
 use Rattle.ji.specs.Unicode.{Table, pickText, pickNumber, same, listed}
-use Rattle.ji.specs.Text.{points, marked, point, within, lower, begins, replaceAll}
+use Rattle.ji.specs.Text.{points, marked, point, within, lower, begins, replaceAll, butLast, last}
 use Rattle.ji.specs.Tone.{isTone}
 use Rattle.ji.specs.Lomaji.ToneLetter.{toneLetter, isSome, hasToneLetter}
 use Rattle.ji.specs.declared.tone.Tone.{Tone}
@@ -21,7 +21,7 @@ use Rattle.ji.specs.declared.lomaji.khin.Khin.the-variants.{No}
 use Rattle.ji.specs.Lomaji.Keys.{respell}
 use Rattle.ji.proofs.Bools.{and-no, and-true, and-false, or-no}
 use Rattle.ji.proofs.text.Laws.{drop-next, replace-nil, replace-hit, replace-miss, replace-short, replacePoints, points-first, points-second, points-other}
-use Rattle.khiin.specs.Syllable.{last, butLast, compose}
+use Rattle.khiin.specs.Syllable.{compose}
 use Rattle.khiin.specs.Converter.{keyToTone, toneToKey, endsWith, repeatsTone, opensNasal, opensDot, opensO, opensU, eLike, grown, nasalSigns, endsInStop, sharedOr, toned, joined, bare, isFirst, composedStep, step}
 use Rattle.khiin.specs.Telex.{pickEdit, editBy, editAt, editOf, composedOf, edited}
 use Rattle.khiin.specs.declared.converter.ToneKeys.{ToneKeys}

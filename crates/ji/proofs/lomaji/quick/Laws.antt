@@ -8,9 +8,9 @@ use native.Mathlib.Omega.{arith}
 use lib.Dec.{T, leb, ltb, leb→le, ltb→lt}
 use lib.ListN.{length, drop, set}
 use lib.Seq.{paste}
-use Rattle.ucd.specs.Table.{Table, same, member, inRanges, decomposition, combiningClass, classIn}
+use Rattle.ucd.specs.Table.{Table, same, member, decomposition, combiningClass, classIn}
 use Rattle.ucd.specs.Full.{full}
-use Rattle.ucd.specs.Unicode16.{unicode16, ranges16, classes16}
+use Rattle.ucd.specs.Unicode16.{unicode16, classes16}
 use Rattle.ucd.proofs.Tests.{both-left, both-right, same-equal}
 use Rattle.ucd.proofs.Lists.{eachClass, class-passes}
 use Rattle.ucd.proofs.Unicode16.{low-atom, low-starter, full-itself}
@@ -24,7 +24,7 @@ use Rattle.ji.specs.declared.tone.Tone.{Tone}
 use Rattle.ji.specs.declared.tone.Tone.the-variants.{None}
 use Rattle.ji.specs.declared.lomaji.quick.Progress.{Progress}
 use Rattle.ji.specs.declared.lomaji.quick.Outcome.the-variants.{Whole}
-use Rattle.ji.proofs.Bools.{either, false-true, or-yes, within-yes}
+use Rattle.ji.proofs.Bools.{either, false-true}
 use Rattle.ji.proofs.Writing.{written-none, written-one, written-run, written-length}
 use Rattle.ji.proofs.Decomposition.{full-nil, full-append}
 use Rattle.ji.proofs.unicode.Reader.{width-within, Taken, taken-start, taken-more, taken-end}
@@ -220,11 +220,7 @@ pub record Walking (s before out : List ℕ) (i : ℕ) (p : Progress) : Type 0 w
   pub taken : Taken unicode16 s text i
   pub stripping : Stripping before out p (full unicode16 text)
 
--- ASCII is in the table, and decomposes no further
-pub ascii-member : (x : ℕ) → x < 0x80 → member unicode16 x ≡ true
-unfolding member unicode16 ranges16 inRanges
-ascii-member x h = or-yes _ _ (within-yes 0 0x7F x (omega arith) (omega arith))
-
+-- ASCII decomposes no further
 pub ascii-full : (x : ℕ) → x < 0x80 → full unicode16 (x ∷ []) ≡ x ∷ []
 ascii-full x h = full-itself x (low-atom x (omega arith))
 

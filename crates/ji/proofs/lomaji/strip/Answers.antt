@@ -26,6 +26,7 @@ use Rattle.ji.specs.declared.tone.Tone.the-variants.{None, T1, T2, T3, T
 use Rattle.ji.specs.declared.lomaji.strip.StripResult.{StripResult}
 use Rattle.ji.specs.declared.lomaji.strip.Strip.the-variants.{Done, Refused}
 use Rattle.ji.proofs.Bools.{either, and-yes}
+use Rattle.ji.proofs.Replies.{refusal-some}
 use Rattle.ji.proofs.Closure.{Inside, nfd-inside-16}
 use Rattle.ji.proofs.Decomposition.{full-nil, full-cons}
 use Rattle.ji.proofs.Order.{order-length}
@@ -90,15 +91,6 @@ by-number NoRoom = refl
 
 pub same-refusal : (why other : Refusal) → refusalNumber why ≡ refusalNumber other → why ≡ other
 same-refusal why other e = sym (by-number why) ∙ ap (λ (n : ℕ). getD refusals n Argument) e ∙ by-number other
-
-refusal-some : (why : Refusal) → 0 < refusalNumber why
-refusal-some Argument = omega arith
-refusal-some TooLong = omega arith
-refusal-some IllFormed = omega arith
-refusal-some OutsideTable = omega arith
-refusal-some Parts = omega arith
-refusal-some Position = omega arith
-refusal-some NoRoom = omega arith
 
 abbrev tones : List Tone
 tones = None ∷ T1 ∷ T2 ∷ T3 ∷ T4 ∷ T5 ∷ T6 ∷ T7 ∷ T8 ∷ T9 ∷ []

@@ -5,12 +5,12 @@ use native.Mathlib.Nat.{sub-zero}
 use borrow.Author.Tests.{eq-eqb, ne-eqb}
 use lib.ListN.{length, take, length-append}
 use lib.Seq.{take-at}
+use Rattle.ji.specs.Text.{butLast}
 use Rattle.ji.specs.Unicode.{unicode16}
 use Rattle.ji.specs.Utf8.{encode}
 use Rattle.ji.specs.Reply.{placed}
 use Rattle.ji.proofs.Bools.{text-yes, text-no}
 use Rattle.ji.proofs.unicode.Bytes.{bytes-one, encode-nil, encode-cons, encode-append}
-use Rattle.khiin.specs.Syllable.{butLast}
 use Rattle.khiin.specs.Converter.{grown}
 use Rattle.khiin.specs.Telex.{composedOf}
 use borrow.Author.Needs.{needs}

@@ -13,7 +13,7 @@ use Rattle.ji.proofs.Writing.{written-length}
 use Rattle.ji.proofs.Readings.{front, told}
 use Rattle.ji.proofs.unicode.Laws.{spread-plain}
 use Rattle.khiin.specs.Telex.{editAt}
-use Rattle.khiin.proofs.syllable.Records.{good-same, good-not-bad}
+use Rattle.ji.proofs.unicode.Checked.{good-same, good-not-bad}
 use borrow.Author.Needs.{needs}
 use native.Mathlib.Omega.{arith}
 use Rattle.khiin.proofs.converter.edit_in.Statement.{statement}

@@ -4,10 +4,10 @@ use Prim.Native.Nat.{ℕ, _+_, _-_, _≤_, _<_}
 use native.Mathlib.Numerals.{add-one}
 use lib.ListN.{length, take, set, length-append, length-set}
 use lib.Seq.{length-take-le, take-suc-set}
+use Rattle.ji.specs.Text.{butLast}
 use Rattle.ji.specs.Unicode.{unicode16}
 use Rattle.ji.specs.Utf8.{encode}
 use Rattle.ji.specs.Reply.{placed}
-use Rattle.khiin.specs.Syllable.{butLast}
 use Rattle.khiin.specs.Converter.{eLike}
 use Rattle.khiin.specs.Telex.{composedOf, edited}
 use Rattle.khiin.specs.declared.converter.Edit.{Edit}

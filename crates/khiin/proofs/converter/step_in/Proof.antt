@@ -26,7 +26,7 @@ use Rattle.ji.proofs.lomaji.strip.Answers.{stripped-inside, stripped-points, St
 use Rattle.ji.proofs.lomaji.tone_letter.Marks.{letter-stripped}
 use Rattle.khiin.specs.Telex.{editOf, edited, stepOf}
 use Rattle.khiin.specs.declared.converter.Edit.{Edit}
-use Rattle.khiin.proofs.syllable.Records.{points-good, good-same, good-not-bad}
+use Rattle.ji.proofs.unicode.Checked.{points-good, good-same, good-not-bad}
 use Rattle.khiin.proofs.converter.Laws.{stored-key, step-is}
 use borrow.Author.Needs.{needs}
 use native.Mathlib.Omega.{arith}

@@ -12,7 +12,7 @@ use lib.Dec.{ltb, eqb}
 use lib.ListN.{length, take, drop, getD, set, length-append, length-take, length-drop, drop-of-length-le, List·getD-append}
 use lib.Seq.{length-take-le, take-length, take-suc, drop-cons, append-snoc, split-at, take-append-le, take-append-add, take-take, take-add, getD-take, getD-drop, drop-drop, drop-at, set-at}
 use Rattle.ji.specs.Unicode.{Table, pickText, listed}
-use Rattle.ji.specs.Text.{points, marked, point, lower, begins, replaceFrom, replaceAll}
+use Rattle.ji.specs.Text.{points, marked, point, lower, begins, replaceFrom, replaceAll, last}
 use Rattle.ji.specs.Utf8.{encode}
 use Rattle.ji.specs.Written.{Written}
 use Rattle.ji.specs.Lomaji.Keys.{respell}
@@ -22,7 +22,7 @@ use Rattle.ji.proofs.Bools.{either, false-true, and-yes, and-no, and-true, and-
 use Rattle.ji.proofs.Writing.{written-length, written-take, written-drop, stores-2}
 use Rattle.ji.proofs.Underway.{Underway, underway-start, underway-one, underway-run, underway-end}
 use Rattle.ji.proofs.text.Laws.{drop-next, begins-short, begins-split, replace-nil, replace-hit, replace-miss, replace-point, replace-other, replace-growth, replace-induction}
-use Rattle.khiin.specs.Syllable.{vowelRules, nasalRules, oRules, isNasalEnd, endsNasal, nasalised, moved, spelled, last, composedAt, composedWith}
+use Rattle.khiin.specs.Syllable.{vowelRules, nasalRules, oRules, isNasalEnd, endsNasal, nasalised, moved, spelled, composedAt, composedWith}
 use Rattle.khiin.specs.Compose.{Front, isPair, beginsAny, takesDot, inserted, composedTextAt, composedText}
 
 getD-start : (s : List ℕ) (i : ℕ) → getD (drop i s) 0 0 ≡ getD s i 0

@@ -12,16 +12,17 @@ use lib.ListN.{length, take, drop, getD, drop-of-length-le}
 use lib.Seq.{split-at, take-suc, append-snoc}
 use borrow.Author.Tests.{le-leb, leb-true, lt-ltb}
 use Rattle.ji.specs.Unicode.{unicode16, listed, composite}
-use Rattle.ji.specs.Text.{points}
+use Rattle.ji.specs.Text.{points, allAscii}
 use Rattle.ji.specs.Utf8.{bytesOf, encode}
 use Rattle.ji.specs.Lomaji.ToneLetter.{toneLetter}
 use Rattle.ji.specs.declared.tone.Tone.{Tone}
 use Rattle.ji.specs.declared.lomaji.khin.Khin.the-variants.{No}
 use Rattle.ji.proofs.Bools.{and-yes, and-no, and-false, and-left, and-right, or-yes, or-no}
 use Rattle.ji.proofs.text.Laws.{drop-next}
-use Rattle.ji.proofs.unicode.Bytes.{bytes-one, encode-nil, encode-cons, encode-append}
+use Rattle.ji.proofs.unicode.Ascii.{ascii-low, ascii-rest, ascii-take, ascii-drop, ascii-bytes, ascii-at}
+use Rattle.ji.proofs.unicode.Bytes.{encode-cons, encode-append}
 use Rattle.ji.proofs.lomaji.tone_letter.Laws.{tone-letter-below}
-use Rattle.khiin.specs.Syllable.{endsNasal, spelled, markOf, encoded, compose, composedAt, composedWith, allAscii}
+use Rattle.khiin.specs.Syllable.{endsNasal, spelled, markOf, encoded, compose, composedAt, composedWith}
 use Rattle.khiin.specs.Compose.{isPair, staysBehind, settledFrom, Plain}
 use Rattle.khiin.proofs.syllable.compose.Laws.{plain, spelled-plain}
 use Rattle.khiin.proofs.syllable.quick.Settled.{IsMark, Fits, encoded-one, encoded-none, encoded-settled, tone-mark}
@@ -80,18 +81,6 @@ pub quick-is : (s : List ℕ) → quickFrom 0 s ≡ true → endsNasal s ≡ fal
 quick-is s h n = record { ascii = quick-ascii 0 s h; spelling = spelled-plain s (quick-plain 0 s h) n }
 
 -- ── ASCII
-ascii-low : (x : ℕ) (s : List ℕ) → allAscii (x ∷ s) ≡ true → x ≤ 0x7F
-unfolding allAscii
-ascii-low x s h = leb-true x 0x7F (and-left (leb x 0x7F) (allAscii s) h)
-
-ascii-rest : (x : ℕ) (s : List ℕ) → allAscii (x ∷ s) ≡ true → allAscii s ≡ true
-unfolding allAscii
-ascii-rest x s h = and-right (leb x 0x7F) (allAscii s) h
-
-pub ascii-encode : (s : List ℕ) → allAscii s ≡ true → encode s ≡ s
-ascii-encode [] h = encode-nil
-ascii-encode (x ∷ s) h = encode-cons x s ∙ ap₂ (λ (u v : List ℕ). u ++ v) (bytes-one x (ascii-low x s h)) (ascii-encode s (ascii-rest x s h))
-
 ascii-settled : (b : ℕ) (s : List ℕ) → allAscii s ≡ true → settledFrom b s ≡ true
 unfolding settledFrom
 ascii-settled b [] h = refl
@@ -99,29 +88,13 @@ ascii-settled b (x ∷ s) h =
     let low : x ≤ 0x7F = ascii-low x s h in
     and-yes _ _ (or-yes _ _ (or-yes _ _ (lt-ltb x 0xC0 (omega arith)))) ∙ ascii-settled x s (ascii-rest x s h)
 
-pub ascii-at : (s : List ℕ) (k : ℕ) → allAscii s ≡ true → getD s k 0 ≤ 0x7F
-ascii-at [] k h = omega arith
-ascii-at (x ∷ s) zero h = ascii-low x s h
-ascii-at (x ∷ s) (suc k) h = ascii-at s k (ascii-rest x s h)
-
-ascii-take : (n : ℕ) (s : List ℕ) → allAscii s ≡ true → allAscii (take n s) ≡ true
-unfolding allAscii
-ascii-take zero s h = refl
-ascii-take (suc n) [] h = refl
-ascii-take (suc n) (x ∷ s) h = and-yes _ _ (le-leb x 0x7F (ascii-low x s h)) ∙ ascii-take n s (ascii-rest x s h)
-
-ascii-drop : (n : ℕ) (s : List ℕ) → allAscii s ≡ true → allAscii (drop n s) ≡ true
-ascii-drop zero s h = h
-ascii-drop (suc n) [] h = h
-ascii-drop (suc n) (x ∷ s) h = ascii-drop n s (ascii-rest x s h)
-
 -- the bytes of an ASCII text with one code point put between its parts
 pub ascii-between : (s bytes : List ℕ) → allAscii s ≡ true → bytes ≡ encode s → (j c k : ℕ) → encode (take j s ++ (c ∷ drop k s)) ≡ take j bytes ++ (bytesOf c ++ drop k bytes)
 ascii-between s bytes h e j c k =
-    rw (e, ascii-encode s h)
+    rw (e, ascii-bytes s h)
     (encode-append (take j s) (c ∷ drop k s)
-    ∙ ap₂ (λ (u v : List ℕ). u ++ v) (ascii-encode (take j s) (ascii-take j s h))
-    (encode-cons c (drop k s) ∙ ap (λ (v : List ℕ). bytesOf c ++ v) (ascii-encode (drop k s) (ascii-drop k s h))))
+    ∙ ap₂ (λ (u v : List ℕ). u ++ v) (ascii-bytes (take j s) (ascii-take j s h))
+    (encode-cons c (drop k s) ∙ ap (λ (v : List ℕ). bytesOf c ++ v) (ascii-bytes (drop k s) (ascii-drop k s h))))
 
 -- ── the walk that tells whether a text is settled
 pub settled-step : (before : ℕ) (s : List ℕ) (i : ℕ) → i < length s → staysBehind before (getD s i 0) ≡ true → settledFrom before (drop i s) ≡ settledFrom (getD s i 0) (drop (i + 1) s)

@@ -1,6 +1,6 @@
 use mathlib.Core.Path.{refl, sym, ap, _∙_}
-use Rattle.khiin.specs.Syllable.{recordReply}
-use Rattle.khiin.specs.declared.syllable.Recorded.{Recorded}
+use Rattle.khiin_records.specs.Syllable.{recordReply}
+use Rattle.khiin_records.specs.declared.Recorded.{Recorded}
 use borrow.Author.Needs.{needs}
 use native.Mathlib.Omega.{arith}
 use Rattle.robinflint.proofs.reply.syllable.Statement.{statement}

@@ -14,7 +14,8 @@ use Rattle.ji.specs.declared.lomaji.quick.Progress.{Progress}
 use Rattle.ji.proofs.Writing.{written-length}
 use Rattle.ji.proofs.utf8.Laws.{read-one}
 use Rattle.ji.proofs.unicode.Reader.{width-within}
-use Rattle.ji.proofs.lomaji.quick.Laws.{further-same, ascii-member, ascii-full, Walking, walking-start, walking-more, walking-end}
+use Rattle.ji.proofs.unicode.Ascii.{ascii-member}
+use Rattle.ji.proofs.lomaji.quick.Laws.{further-same, ascii-full, Walking, walking-start, walking-more, walking-end}
 use borrow.Author.Needs.{needs}
 use native.Mathlib.Omega.{arith}
 use Rattle.ji.proofs.lomaji.quick.walk.Statement.{statement}

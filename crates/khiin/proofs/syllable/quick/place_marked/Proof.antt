@@ -6,7 +6,8 @@ use Rattle.ji.specs.Utf8.{encode}
 use Rattle.ji.specs.Reply.{placed}
 use Rattle.ji.proofs.lomaji.tone_letter.Laws.{tone-letter-below}
 use Rattle.khiin.proofs.syllable.quick.Settled.{tone-mark}
-use Rattle.khiin.proofs.syllable.quick.Ascii.{ascii-encode, ascii-between, plain-one, plain-none}
+use Rattle.ji.proofs.unicode.Ascii.{ascii-bytes}
+use Rattle.khiin.proofs.syllable.quick.Ascii.{ascii-between, plain-one, plain-none}
 use borrow.Author.Needs.{needs}
 use native.Mathlib.Omega.{arith}
 use borrow.Author.Needs.{needs}
@@ -18,7 +19,7 @@ module _ (s : tie.Start) where
   inside = tone-letter-below (s .args .points .now) (s .args .k) (s .pre .3)
 
   same-size : length (s .args .body .now) ≡ length (s .args .points .now)
-  same-size = ap length (s .pre .2 ∙ ascii-encode (s .args .points .now) (s .pre .0 .ascii))
+  same-size = ap length (s .pre .2 ∙ ascii-bytes (s .args .points .now) (s .pre .0 .ascii))
 
 -- src/syllable/quick.rt:269:20
 mul-joined : tie.Need-mul-joined

@@ -1,0 +1,75 @@
+use mathlib.Core.Path.{_≡_, refl, sym, ap, _∙_}
+use mathlib.Core.List.{List, [], _∷_}
+use Prim.Native.Nat.{ℕ, _<_}
+use lib.ListN.{length}
+use Rattle.ji.specs.Unicode.{unicode16, members}
+use Rattle.ji.specs.Reply.{refused, Checked, good, checkText}
+use Rattle.ji.specs.declared.reply.Refusal.the-variants.{TooLong}
+use Rattle.ji.proofs.Replies.{check-long}
+use Rattle.ji.proofs.unicode.Bytes.{encode-nil}
+use Rattle.ji.proofs.unicode.Checked.{check-passes}
+use Rattle.khiin_records.specs.Syllable.{default, fromComposed, candidateIn, candidateOf, candidateCall}
+use borrow.Author.Needs.{needs}
+use native.Mathlib.Omega.{arith}
+use Rattle.khiin_records.proofs.from_composed.candidate_plain.Statement.{statement}
+use Rattle.khiin_records.proofs.from_composed.candidate_plain.Tie as tie
+
+nothing-good : checkText unicode16 [] ≡ good []
+unfolding checkText members
+nothing-good = ap (checkText unicode16) (sym encode-nil) ∙ check-passes 256 [] refl (omega (arith, ap length encode-nil))
+
+none-given : (text : List ℕ) (position : ℕ) (buffer : List ℕ) → length text ≡ 0 → candidateIn (default ∷ []) position buffer ≡ candidateCall unicode16 text position buffer
+unfolding candidateCall fromComposed
+none-given [] position buffer h = sym (ap (λ (k : Checked). candidateOf unicode16 k position buffer) nothing-good)
+none-given (b ∷ text) position buffer h = absurd (omega (arith, h))
+
+too-long : (text : List ℕ) (position : ℕ) (buffer : List ℕ) → 256 < length text → refused TooLong buffer ≡ candidateCall unicode16 text position buffer
+unfolding candidateCall
+too-long text position buffer h = sym (ap (λ (k : Checked). candidateOf unicode16 k position buffer) (check-long unicode16 text h))
+
+default-at-requires : tie.Need-default-at-requires
+default-at-requires c κs = search needs
+
+same-length : tie.Need-same-length
+same-length c = search needs
+
+returns : tie.Need-returns
+returns c = let a = c .before .before .before .before .before .before .before .args in c .before .before .default-at .ensures ∙ none-given (a .text .now) (a .position) (a .out .now) (c .before .before .before .before .if1 .taken)
+
+candidate-short-requires : tie.Need-candidate-short-requires
+candidate-short-requires c κs = search needs
+
+same-length-2 : tie.Need-same-length-2
+same-length-2 c = search needs
+
+returns-2 : tie.Need-returns-2
+returns-2 c = search needs
+
+candidate-long-requires : tie.Need-candidate-long-requires
+candidate-long-requires c κs = search needs
+
+same-length-3 : tie.Need-same-length-3
+same-length-3 c = search needs
+
+returns-3 : tie.Need-returns-3
+returns-3 c = search needs
+
+returns-4 : tie.Need-returns-4
+returns-4 c =
+    let a = c .before .before .before .before .before .args in
+    too-long (a .text .now) (a .position) (a .out .now) (omega (arith, c .if3 .left))
+
+pub candidate-plain-spec : {M : Type 1} → statement M
+candidate-plain-spec =
+    tie.close
+    (tie.spec
+    default-at-requires
+    same-length
+    returns
+    candidate-short-requires
+    same-length-2
+    returns-2
+    candidate-long-requires
+    same-length-3
+    returns-3
+    returns-4)

@@ -1,0 +1,4 @@
+pub mod Syllable
+pub mod Records
+pub mod RawBytes
+pub mod Alignment
