@@ -1,12 +1,12 @@
 -- UTF-8 (the Unicode Standard, 3.9): well-formed byte sequences by Table 3-7, their code points by Table 3-6.
 use mathlib.Core.Path.{_≡_}
-use mathlib.Core.Bool.{Bool, true, false, _&&_}
+use mathlib.Core.Bool.{Bool, true, false, not, _&&_}
 use mathlib.Core.List.{List, [], _∷_, _++_}
 use mathlib.Core.Option.{Option, none, some}
 use Prim.Native.String.{String}
 use Prim.Native.Nat.{ℕ, zero, suc, _+_, _-_, _*_, _/_, _%_, _<_}
 use lib.Dec.{leb, eqb}
-use lib.ListN.{length, take, getD}
+use lib.ListN.{length, take, drop, getD}
 use Rattle.ucd.specs.Table.{pickNumber, pickText}
 use Rattle.ji.specs.Text.{points, within}
 
@@ -109,3 +109,22 @@ encode (x ∷ s) = bytesOf x ++ encode s
 -- the bytes of a quoted text
 abbrev pub bytes : String → List ℕ
 bytes s = encode (points s)
+
+-- ── the last sequence of some bytes
+-- a byte that begins a sequence: by Table 3-7 the others of a sequence are 80 to BF
+abbrev pub isStart : ℕ → Bool
+isStart b = not (within 0x80 0xBF b)
+
+-- where the last such byte stands, and 0 where there is none; `at` bytes stand before s, and `found` is the last place among them
+unfoldable pub lastStartFrom : ℕ → ℕ → List ℕ → ℕ
+lastStartFrom found at [] = found
+lastStartFrom found at (b ∷ s) = lastStartFrom (pickNumber (isStart b) at found) (suc at) s
+
+unfoldable pub lastStart : List ℕ → ℕ
+lastStart s = lastStartFrom 0 0 s
+
+-- the code point of the last sequence where that has at most sixteen bits, as all of the table have, and 0 where there is none such
+unfoldable pub lastPoint : List ℕ → ℕ
+lastPoint s =
+    let tail : List ℕ = drop (lastStart s) s in
+    pickNumber (eqb (widthAt tail) 0) 0 (pickNumber (leb (pointAt tail) 0xFFFF) (pointAt tail) 0)

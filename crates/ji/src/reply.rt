@@ -40,10 +40,13 @@ pub enum TextAnswer {
     Refused(Refusal),
 }
 
-// Writes the text `s` to `out`, if there is room for all of it.
+// Writes the text `s` to `out`, if there is room for all of it. A code point has three bytes at most, so that most buffers need no counting.
 pub fn place(s: &[u16], out: &mut [u8]) -> TextAnswer
     ensures { λ r. ⌜ textReply r (now (out .exit)) ≡ placed 0 (encode (now (s .entry))) (now (out .entry)) ⌝ }
 {
+    if s.len() <= out.len() / 3 {
+        return TextAnswer::Done(utf8::encode(s, out));
+    }
     if utf8::fits(s, out.len()) {
         return TextAnswer::Done(utf8::encode(s, out));
     }

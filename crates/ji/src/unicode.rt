@@ -12,7 +12,8 @@ ghost use Rattle.ucd.specs.Table.{decomposition};
 ghost use Rattle.ucd.specs.Unicode16.{unicode16};
 ghost use Rattle.ji.specs.Unicode.{toByteLen, spread};
 ghost use Rattle.ucd.specs.Full.{full};
-ghost use Rattle.ji.specs.Utf8.{decode};
+ghost use Rattle.ji.specs.Text.{allAscii};
+ghost use Rattle.ji.specs.Utf8.{decode, lastStart, lastPoint};
 ghost use Rattle.ji.specs.Written.{Written};
 ghost use Rattle.ji.specs.Reply.{checkPoints, checkWithin, verdictOf};
 ghost use Rattle.ji.specs.Reading.{spreadText, Reading, PointsReading};
@@ -122,12 +123,42 @@ pub(crate) fn decode(s: &[u8], decomposed: bool, out: &mut [u16]) -> Decoded
     Decoded::Points(CharLen(n))
 }
 
+// Whether all bytes of `s` are ASCII. What is made of such a text needs no table.
+pub fn is_ascii(s: &[u8]) -> bool
+    ensures { λ r. ⌜ r ≡ allAscii (now (s .entry)) ⌝ }
+{
+    let mut i: usize = 0;
+    while i < s.len() {
+        if 0x7F < s[i] {
+            return false;
+        }
+        i += 1;
+    }
+    true
+}
+
+// Writes the bytes `s`, each as the code point that it is in ASCII, to the front of `out`, and returns their number.
+fn widen(s: &[u8], out: &mut [u16]) -> usize
+    requires { ⌜ length (now s) ≤ length (now out) ⌝ }
+    ensures { λ r. ⌜ Written (now (out .entry)) (now (out .exit)) r (now (s .entry)) ⌝ }
+{
+    let mut i: usize = 0;
+    while i < s.len() {
+        out[i] = s[i] as u16;
+        i += 1;
+    }
+    i
+}
+
 // The code points of `text`, as they are, written to the front of `out`. The buffer has to have three places for every two bytes.
 pub fn points(text: &[u8], out: &mut [u16]) -> Decoded
     ensures { λ r. ⌜ PointsReading unicode16 (now (text .entry)) (now (out .entry)) (now (out .exit)) r ⌝ }
 {
     if out.len() / 3 * 2 < text.len() {
         return Decoded::Refused(Refusal::NoRoom);
+    }
+    if is_ascii(text) {
+        return Decoded::Points(CharLen(widen(text, out)));
     }
     decode(text, false, out)
 }
@@ -163,7 +194,35 @@ pub fn check(text: &[u8], limit: usize) -> Verdict
     if limit < text.len() {
         return Verdict::Refused(Refusal::TooLong);
     }
+    if is_ascii(text) {
+        return Verdict::Good;
+    }
     check_points(text)
+}
+
+// Where the last sequence of `text` begins, in bytes.
+pub fn last_start(text: &[u8]) -> ByteLen
+    ensures { λ r. ⌜ (r .0 ≡ lastStart (now (text .entry))) × (r .0 ≤ length (now (text .entry))) ⌝ }
+{
+    ByteLen(utf8::last_start(text))
+}
+
+// The code point of the last sequence of `text`, and 0 where there is none, or one of more than sixteen bits, which the table has not.
+pub fn last_point(text: &[u8]) -> u16
+    ensures { λ r. ⌜ r ≡ lastPoint (now (text .entry)) ⌝ }
+{
+    if text.len() == 0 {
+        return 0;
+    }
+    let sequence = utf8::read(text, utf8::last_start(text));
+    if sequence.width == 0 {
+        return 0;
+    }
+    let point = sequence.point;
+    if point <= 0xFFFF {
+        return point as u16;
+    }
+    0
 }
 
 // The full decomposition of the code points `s`, written to the front of `out`.

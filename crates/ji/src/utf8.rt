@@ -8,7 +8,7 @@ ghost use lib.ListN.{length, drop, getD};
 ghost use lib.Seq.{paste};
 ghost use Rattle.ji.specs.Written.{Written};
 ghost use Rattle.ji.specs.Text.{within};
-ghost use Rattle.ji.specs.Utf8.{secondLow, secondHigh, ReadOf, decode, isDecoded, bytesOf, encode};
+ghost use Rattle.ji.specs.Utf8.{isStart, lastStart, secondLow, secondHigh, ReadOf, decode, isDecoded, bytesOf, encode};
 
 // A sequence of bytes: its width, 0 where it is ill formed, and its code point.
 pub(crate) struct Sequence {
@@ -263,4 +263,28 @@ pub(crate) fn fits(s: &[u16], room: usize) -> bool
         i += 1;
     }
     true
+}
+
+// Whether a byte begins a sequence.
+fn is_start(b: u8) -> bool
+    ensures { λ r. ⌜ r ≡ isStart b ⌝ }
+{
+    if b < 0x80 {
+        return true;
+    }
+    0xBF < b
+}
+
+// Where the last sequence of `s` begins.
+pub(crate) fn last_start(s: &[u8]) -> usize
+    ensures { λ r. ⌜ (r ≡ lastStart (now (s .entry))) × (r ≤ length (now (s .entry))) × (0 < length (now (s .entry)) → r < length (now (s .entry))) ⌝ }
+{
+    let mut i = s.len();
+    while 0 < i {
+        i -= 1;
+        if is_start(s[i]) {
+            return i;
+        }
+    }
+    0
 }

@@ -2,18 +2,17 @@
 use mathlib.Core.Path.{_≡_}
 use mathlib.Core.Bool.{Bool, true, false, not, _&&_, _||_}
 use mathlib.Core.List.{List, [], _∷_, _++_}
-use mathlib.Core.Option.{Option, none, some}
+use mathlib.Core.Option.{none, some}
 use Prim.Native.Nat.{ℕ, _+_, _-_, _≤_, _<_}
 use lib.Dec.{ltb, eqb}
 use lib.ListN.{length, take, drop, getD}
-use Rattle.ji.specs.Unicode.{Table, unicode16, listed, composite}
-use Rattle.ji.specs.Text.{points, marked, begins, allAscii}
-use Rattle.ji.specs.Lomaji.ToneLetter.{toneLetter}
-use Rattle.khiin.specs.Syllable.{oRules, spelled, encoded}
-use Rattle.khiin.specs.declared.syllable.compose.Mark.{Mark}
-use Rattle.khiin.specs.declared.syllable.compose.Mark.the-variants.{Nothing, Point}
-use Rattle.khiin.specs.declared.syllable.compose.Composed.{Composed}
-use Rattle.khiin.specs.declared.syllable.compose.Composed.the-variants.{Raw, Text}
+use Rattle.ji.specs.Unicode.{unicode16, listed, composite}
+use Rattle.ji.specs.Text.{points, marked, point, lower, begins}
+use Rattle.ji.specs.Lomaji.Keys.{respell}
+use Rattle.khiin.specs.Syllable.{vowelRules, oRules, nasalised, moved}
+use Rattle.khiin.specs.declared.syllable.marking.Mark.{Mark}
+use Rattle.khiin.specs.declared.syllable.marking.Mark.the-variants.{Nothing, Point}
+use Rattle.khiin.specs.declared.syllable.compose.Settled.{Settled}
 
 -- the text s stands at the front of a buffer, and has n elements; what is behind it is left open
 pub record Front (buffer : List ℕ) (n : ℕ) (s : List ℕ) : Type 0 where
@@ -29,6 +28,37 @@ markText (Point m) = m ∷ []
 unfoldable pub isPair : List ℕ → Bool
 isPair [] = false
 isPair (x ∷ s) = listed (points "oOeE") x && listed (points "oOuU") (getD s 0 0)
+
+-- nn stands at the beginning of a text, case ignored
+unfoldable pub isNasalPair : List ℕ → Bool
+isNasalPair [] = false
+isNasalPair (x ∷ s) = eqb (lower x) (point "n") && eqb (lower (getD s 0 0)) (point "n")
+
+-- no pair of vowels begins from one place on and before another
+abbrev pub NoPairIn : ℕ → ℕ → List ℕ → Type 0
+NoPairIn from to s = (k : ℕ) → from ≤ k → k < to → isPair (drop k s) ≡ false
+
+-- nn stands nowhere but at the end
+abbrev pub NoNasalBefore : List ℕ → Type 0
+NoNasalBefore s = (k : ℕ) → k + 2 < length s → isNasalPair (drop k s) ≡ false
+
+-- no code point but the last is a sign, or stands above the signs in the table
+abbrev pub NoSignBefore : List ℕ → Type 0
+NoSignBefore s = (k : ℕ) → k + 1 < length s → getD s k 0 < 0x1D3A
+
+-- a body with the vowel rules, the nasal rules and the moves to the end: what is left are the O rules
+unfoldable pub settledBody : List ℕ → List ℕ
+settledBody s = moved (point "ᴺ") (moved (point "ⁿ") (nasalised (respell vowelRules s)))
+
+-- the text s stands at the front of a buffer, as r tells
+pub record SettledAs (buffer s : List ℕ) (r : Settled) : Type 0 where
+  pub front : Front buffer (r .len) s
+  pub lone : r .lone ≡ true → NoSignBefore s
+
+-- the O rules put U+0358 behind the first `at` code points of s, and nowhere where `at` is 0
+pub record DotAt (at : ℕ) (s : List ℕ) : Type 0 where
+  pub nowhere : at ≡ 0 → respell oRules s ≡ s
+  pub behind : 0 < at → (at ≤ length s) × (respell oRules s ≡ take at s ++ (0x0358 ∷ drop at s))
 
 -- nowhere in a text does one of the second letters stand behind one of the first; `before` stands before the text
 unfoldable pub apartFrom : List ℕ → List ℕ → ℕ → List ℕ → Bool
@@ -65,20 +95,6 @@ takesDot s = beginsAny oRules s
 abbrev pub inserted : ℕ → ℕ → List ℕ → List ℕ
 inserted k x s = take k s ++ (x ∷ take (length s - 1 - k) (drop k s))
 
--- the composed text of s with a mark, and none where the answer is the raw input
-abbrev pub composedTextAt : Table → List ℕ → List ℕ → Option ℕ → Option (List ℕ)
-composedTextAt t s mark none = none
-composedTextAt t s mark (some k) = some (encoded t (take (k + 1) s ++ (mark ++ drop (k + 1) s)))
-
-abbrev pub composedText : Table → List ℕ → List ℕ → Option (List ℕ)
-composedText t s [] = some (encoded t s)
-composedText t s (m ∷ ms) = composedTextAt t s (m ∷ ms) (toneLetter s)
-
--- the composed text stands at the front of the buffer, or there is none
-abbrev pub Composing : Option (List ℕ) → List ℕ → Composed → Type 0
-Composing text buffer (Text n) = (s : List ℕ) × (text ≡ some s) × Front buffer (n .0) s
-Composing text buffer Raw = text ≡ none
-
 -- ── texts that need no normalising
 -- x stays as it is behind `before`: it is below 00C0, where nothing decomposes or composes; or 0358 or a sign, with which no composite is made; or
 -- 0324 behind an o, with which it makes none
@@ -100,8 +116,3 @@ pub record Joined (x mark r : ℕ) : Type 0 where
   pub apart : r ≡ 1 → composite unicode16 x mark ≡ none
   pub one : 1 < r → composite unicode16 x mark ≡ some r
   pub small : 1 < r → (0x80 ≤ r) × (r < 0x0300)
-
--- an ASCII text that no rule touches
-pub record Plain (s : List ℕ) : Type 0 where
-  pub ascii : allAscii s ≡ true
-  pub spelling : spelled s ≡ s

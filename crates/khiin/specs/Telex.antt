@@ -1,9 +1,12 @@
 -- The telex step as the code takes it: which branch a key takes, and what each branch makes of the stripped text alone.
 use mathlib.Core.Bool.{Bool, true, false, not, _&&_, _||_}
 use mathlib.Core.List.{List, [], _∷_, _++_}
-use Prim.Native.Nat.{ℕ}
+use mathlib.Core.Path.{_≡_}
+use Prim.Native.Nat.{ℕ, _<_}
 use lib.Dec.{eqb}
-use Rattle.ji.specs.Unicode.{Table, pickText}
+use lib.ListN.{length, take}
+use Rattle.ji.specs.Unicode.{Table, unicode16, members, pickText}
+use Rattle.ji.specs.Utf8.{encode}
 use Rattle.ji.specs.Text.{point, lower, butLast}
 use Rattle.ji.specs.Tone.{isTone}
 use Rattle.ji.specs.Lomaji.Strip.{strip}
@@ -61,3 +64,10 @@ edited t k Compose key tone rest = composedOf t k key tone rest
 -- the step with the keys that the mode leaves
 unfoldable pub stepOf : Table → ToneKeys → ℕ → List ℕ → List ℕ
 stepOf t k key given = step t k key given (strip t given .tone) (strip t given .rest)
+
+-- a stripped text stands in the first n bytes of a buffer
+pub record RestIn (bytes : List ℕ) (n : ℕ) : Type 0 where
+  pub rest : List ℕ
+  pub inside : members unicode16 rest ≡ true
+  pub few : length rest < 400
+  pub written : take n bytes ≡ encode rest

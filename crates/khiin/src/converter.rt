@@ -1,11 +1,10 @@
 // The telex step: `convert_to_telex`, its text only.
+use crate::syllable::compose::compose_points;
 use crate::syllable::compose::lower;
-use crate::syllable::quick::compose_quick;
 use ji::lomaji::khin::Khin;
 use ji::lomaji::strip;
 use ji::lomaji::strip::Strip;
-use ji::lomaji::tone_letter::Place;
-use ji::lomaji::tone_letter::tone_position;
+use ji::lomaji::tone_letter::holds_letter;
 use ji::reply;
 use ji::reply::Refusal;
 use ji::reply::TextAnswer;
@@ -19,12 +18,13 @@ ghost use mathlib.Core.List.{List, [], _∷_, _++_};
 ghost use Prim.Native.Nat.{ℕ, _+_, _-_, _*_, _/_, _≤_, _<_};
 ghost use lib.ListN.{length, take};
 ghost use Rattle.ji.specs.Unicode.{unicode16, listed};
-ghost use Rattle.ji.specs.Text.{points as pointsOf, butLast, last};
-ghost use Rattle.ji.specs.Utf8.{decode, encode};
+ghost use Rattle.ji.specs.Text.{points as pointsOf};
+ghost use Rattle.ji.specs.Utf8.{decode, encode, lastStart};
 ghost use Rattle.ji.specs.Reply.{placed, textCall, textReply, good, checkPoints};
 ghost use Rattle.ji.specs.Lomaji.ToneLetter.{toneLetter, isSome};
+ghost use Rattle.khiin.specs.Syllable.{compose};
 ghost use Rattle.khiin.specs.Converter.{keysIn, keyToTone, toneToKey, isSetting, settingsFit, sharedOr, endsInStop, repeatsTone, eLike, grown, isFirst, telexCall};
-ghost use Rattle.khiin.specs.Telex.{editBy, editAt, editOf, composedOf, edited, stepOf};
+ghost use Rattle.khiin.specs.Telex.{editBy, editAt, editOf, composedOf, edited, stepOf, RestIn};
 
 // How tone keys are chosen.
 pub enum ToneMode {
@@ -300,64 +300,49 @@ fn edit_by(low: u16, before: u16, end: u16) -> Edit
     Edit::Compose
 }
 
-// The last code point of `s` without the last `cut`, and 0 where there is none.
-fn last_before(s: &[u16], cut: usize) -> u16
-    ensures { λ r. ⌜ r ≡ last (butLast cut (now (s .entry))) ⌝ }
+// Which branch the text takes whose bytes `text` are, unless the key repeats its tone. Its last two code points tell.
+fn edit_at(key: u16, text: &[u8]) -> Edit
+    ensures { λ r. ⌜ ((given : List ℕ) → checkPoints unicode16 (decode (now (text .entry))) ≡ good given → r ≡ editAt key given) ⌝ }
 {
-    let n = s.len();
-    if n <= cut {
-        return 0;
-    }
-    s[n - cut - 1]
-}
-
-// Which branch the text `given` takes, unless the key repeats its tone.
-fn edit_at(key: u16, given: &[u16]) -> Edit
-    ensures { λ r. ⌜ r ≡ editAt key (now (given .entry)) ⌝ }
-{
+    let start = unicode::last_start(text);
+    let n = start.0;
     edit_by(
         lower(key),
-        lower(last_before(given, 1)),
-        last_before(given, 0),
+        lower(unicode::last_point(&text[0..n])),
+        unicode::last_point(text),
     )
 }
 
-// The same from the bytes of the text, which are read into `points`. No text that was stripped is refused there.
-fn edit_in(key: u16, text: &[u8], points: &mut [u16]) -> Edit
-    requires { ⌜ length (now text) ≤ length (now points) / 3 * 2 ⌝ }
-    ensures { λ r. ⌜ ((given : List ℕ) → checkPoints unicode16 (decode (now (text .entry))) ≡ good given → r ≡ editAt key given) ⌝ }
-{
-    match unicode::points(text, points) {
-        Decoded::Refused(_) => Edit::Compose,
-        Decoded::Points(len) => {
-            let n = len.0;
-            edit_at(key, &points[0..n])
-        }
-    }
-}
-
 // Which branch a text of this tone takes. It is read only for the keys that open one.
-fn edit_of(k: ToneKeys, key: u16, tone: Tone, text: &[u8], points: &mut [u16]) -> Edit
-    requires { ⌜ length (now text) ≤ length (now points) / 3 * 2 ⌝ }
+fn edit_of(k: ToneKeys, key: u16, tone: Tone, text: &[u8]) -> Edit
     ensures { λ r. ⌜ ((given : List ℕ) → checkPoints unicode16 (decode (now (text .entry))) ≡ good given → r ≡ editOf k key tone given) ⌝ }
 {
     if repeats_tone(k, key, tone) {
         return Edit::Behind;
     }
     match lower(key) {
-        N | O | U => edit_in(key, text, points),
+        N | O | U => edit_at(key, text),
         _ => Edit::Compose,
     }
 }
 
-// Writes the first `at` of `points`, and the key behind them.
-fn place_key(points: &mut [u16], at: usize, key: u16, out: &mut [u8]) -> TextAnswer
-    requires { ⌜ at < length (now points) ⌝ }
-    ensures { λ r. ⌜ textReply r (now (out .exit)) ≡ placed 0 (encode (take at (now (points .entry)) ++ (key ∷ []))) (now (out .entry)) ⌝ }
+// Writes the first `at` bytes of `bytes`, and the key behind them.
+fn place_key(bytes: &mut [u8], at: usize, key: u8, out: &mut [u8]) -> TextAnswer
+    requires { ⌜ at < length (now bytes) ⌝ }
+    ensures { λ r. ⌜ textReply r (now (out .exit)) ≡ placed 0 (take at (now (bytes .entry)) ++ (key ∷ [])) (now (out .entry)) ⌝ }
 {
-    points[at] = key;
+    bytes[at] = key;
     let n = at + 1;
-    reply::place(&points[0..n], out)
+    reply::place_bytes(&bytes[0..n], out)
+}
+
+// How many bytes the first `n` of `bytes` have without their last code point.
+fn without_last(bytes: &[u8], n: usize) -> usize
+    requires { ⌜ n ≤ length (now bytes) ⌝ }
+    ensures { λ r. ⌜ (r ≡ lastStart (take n (now (bytes .entry)))) × (r ≤ n) ⌝ }
+{
+    let start = unicode::last_start(&bytes[0..n]);
+    start.0
 }
 
 // Whether a text of this tone is one that a tone key gives a tone: it has one other than the first, or a tone letter.
@@ -367,100 +352,122 @@ fn takes_tone(tone: Tone, rest: &[u16]) -> bool
     if tone::number(tone) != 1 {
         return true;
     }
-    match tone_position(rest) {
-        Place::At(_) => true,
-        Place::Nowhere => false,
-    }
+    holds_letter(rest)
 }
 
-// Composes the stripped text `rest` anew, which is `whole` if the key joins it. `short` and `long` are their bytes, and `raw` those of the stripped
-// text and the key.
-fn compose_with(
-    k: ToneKeys,
-    key: u16,
+// What a key makes of the body: how many code points it has, and its tone.
+struct Body {
+    len: usize,
     tone: Tone,
-    raw: &[u8],
-    short: &[u8],
-    rest: &[u16],
-    long: &[u8],
-    whole: &[u16],
-    out: &mut [u8],
-) -> TextAnswer
-    requires { ⌜ (length (now rest) ≤ 400) × (length (now whole) ≤ 400) × (now whole ≡ grown key (now rest)) × (now raw ≡ encode (now rest ++ (key ∷ []))) × (now short ≡ encode (now rest)) × (now long ≡ encode (now whole)) ⌝ }
-    ensures { λ r. ⌜ textReply r (now (out .exit)) ≡ placed 0 (encode (composedOf unicode16 k key tone (now (rest .entry)))) (now (out .entry)) ⌝ }
-{
-    if takes_tone(tone, rest) {
-        let low = lower(key);
-        let typed = key_to_tone(k, low);
-        if tone::is_tone(typed) {
-            let spoken = shared_or(k, low, typed, rest);
-            return compose_quick(raw, short, rest, spoken, Khin::No, out);
-        }
-        let spoken = shared_or(k, tone_to_key(k, tone), tone, whole);
-        return compose_quick(raw, long, whole, spoken, Khin::No, out);
-    }
-    compose_quick(raw, long, whole, Tone::None, Khin::No, out)
 }
 
-// The same, with the key behind the stripped text in `body`. A space joins no body.
+// The body and the tone when a key is typed behind the stripped text, with which `whole` begins; `len` is its length if the key joins it.
+fn typed(k: ToneKeys, key: u16, tone: Tone, whole: &[u16], n: usize, len: usize) -> Body
+    requires { ⌜ (n ≤ length (now whole)) × (len ≤ length (now whole)) ⌝ }
+    ensures { λ r. ⌜ (r .len ≤ length (now (whole .entry))) × (grown key (take n (now (whole .entry))) ≡ take len (now (whole .entry)) → composedOf unicode16 k key tone (take n (now (whole .entry))) ≡ compose unicode16 (take n (now (whole .entry)) ++ (key ∷ [])) (take (r .len) (now (whole .entry))) (r .tone) Khin.No) ⌝ }
+{
+    if takes_tone(tone, &whole[0..n]) {
+        let low = lower(key);
+        let named = key_to_tone(k, low);
+        if tone::is_tone(named) {
+            return Body {
+                len: n,
+                tone: shared_or(k, low, named, &whole[0..n]),
+            };
+        }
+        return Body {
+            len: len,
+            tone: shared_or(k, tone_to_key(k, tone), tone, &whole[0..len]),
+        };
+    }
+    Body {
+        len: len,
+        tone: Tone::None,
+    }
+}
+
+// How many code points a body of `n` has if the key joins it. A space joins none.
+fn grown_len(key: u16, n: usize) -> usize
+    requires { ⌜ n < 400 ⌝ }
+    ensures { λ r. ⌜ (key ≡ 0x20 → r ≡ n) × ((key ≡ 0x20 → ⊥) → r ≡ n + 1) × (r ≤ n + 1) ⌝ }
+{
+    if key == SPACE {
+        return n;
+    }
+    n + 1
+}
+
+// Composes the stripped text anew, which stands in the first `n` places of `points`. `raw` are the bytes of it and the key.
 fn compose_step(
     k: ToneKeys,
     key: u16,
     tone: Tone,
     raw: &[u8],
-    body: &[u16],
+    points: &mut [u16],
+    n: usize,
     out: &mut [u8],
 ) -> TextAnswer
-    requires { ⌜ (0 < length (now body)) × (length (now body) ≤ 400) × (now body ≡ butLast 1 (now body) ++ (key ∷ [])) × (now raw ≡ encode (now body)) × (key ≤ 0x7F) ⌝ }
-    ensures { λ r. ⌜ textReply r (now (out .exit)) ≡ placed 0 (encode (composedOf unicode16 k key tone (butLast 1 (now (body .entry))))) (now (out .entry)) ⌝ }
+    requires { ⌜ (n < 400) × (n + 2 < length (now points)) × (now raw ≡ encode (take n (now points) ++ (key ∷ []))) ⌝ }
+    ensures { λ r. ⌜ textReply r (now (out .exit)) ≡ placed 0 (encode (composedOf unicode16 k key tone (take n (now (points .entry))))) (now (out .entry)) ⌝ }
 {
-    let n = body.len() - 1;
-    let rest = &body[0..n];
-    let m = raw.len() - 1;
-    let short = &raw[0..m];
-    if key == SPACE {
-        return compose_with(k, key, tone, raw, short, rest, short, rest, out);
-    }
-    compose_with(k, key, tone, raw, short, rest, raw, body, out)
+    points[n] = key;
+    let m = n + 1;
+    let body = typed(k, key, tone, &points[0..m], n, grown_len(key, n));
+    let count = body.len;
+    let spoken = body.tone;
+    compose_points(raw, points, count, spoken, Khin::No, out)
 }
 
-// m without n, and 0 where it is smaller.
-fn cut(m: usize, n: usize) -> usize
-    ensures { λ r. ⌜ r ≡ m - n ⌝ }
+// Reads the stripped text, the first `n` of `bytes`, into `points`, and composes it anew.
+fn compose_in(
+    k: ToneKeys,
+    key: u8,
+    tone: Tone,
+    bytes: &mut [u8],
+    n: usize,
+    points: &mut [u16],
+    out: &mut [u8],
+) -> TextAnswer
+    requires { ⌜ (key ≤ 0x7F) × (n < length (now bytes)) × (n ≤ length (now points) / 3 * 2) × (n + 2 < length (now points)) × RestIn (now bytes) n ⌝ }
+    ensures { λ r. ⌜ ((h : RestIn (now (bytes .entry)) n) → textReply r (now (out .exit)) ≡ placed 0 (encode (composedOf unicode16 k key tone (h .rest))) (now (out .entry))) ⌝ }
 {
-    if m < n {
-        return 0;
+    match unicode::points(&bytes[0..n], points) {
+        Decoded::Refused(why) => TextAnswer::Refused(why),
+        Decoded::Points(count) => {
+            let m = count.0;
+            bytes[n] = key;
+            let end = n + 1;
+            compose_step(k, key as u16, tone, &bytes[0..end], points, m, out)
+        }
     }
-    m - n
 }
 
-// Writes what a branch makes of the stripped text, the first `m` of `points`. `raw` are the bytes of it and the key.
+// Writes what a branch makes of the stripped text, the first `n` of `bytes`.
 fn finish(
     k: ToneKeys,
-    key: u16,
+    key: u8,
     tone: Tone,
     edit: Edit,
-    raw: &[u8],
+    bytes: &mut [u8],
+    n: usize,
     points: &mut [u16],
-    m: usize,
     out: &mut [u8],
 ) -> TextAnswer
-    requires { ⌜ (m + 1 < length (now points)) × (m < 400) × (now raw ≡ encode (take m (now points) ++ (key ∷ []))) × (key ≤ 0x7F) ⌝ }
-    ensures { λ r. ⌜ textReply r (now (out .exit)) ≡ placed 0 (encode (edited unicode16 k edit key tone (take m (now (points .entry))))) (now (out .entry)) ⌝ }
+    requires { ⌜ (key ≤ 0x7F) × (n + 1 < length (now bytes)) × (n ≤ length (now points) / 3 * 2) × (n + 2 < length (now points)) × RestIn (now bytes) n ⌝ }
+    ensures { λ r. ⌜ ((h : RestIn (now (bytes .entry)) n) → textReply r (now (out .exit)) ≡ placed 0 (encode (edited unicode16 k edit key tone (h .rest))) (now (out .entry))) ⌝ }
 {
     match edit {
-        Edit::Behind => place_key(points, m, key, out),
-        Edit::Last => place_key(points, cut(m, 1), key, out),
+        Edit::Behind => place_key(bytes, n, key, out),
+        Edit::Last => {
+            let at = without_last(bytes, n);
+            place_key(bytes, at, key, out)
+        }
         Edit::LastTwo => {
-            let at = cut(m, 2);
-            points[at] = e_like(key);
-            place_key(points, at + 1, key, out)
+            let at = without_last(bytes, without_last(bytes, n));
+            bytes[at] = e_like(key as u16) as u8;
+            place_key(bytes, at + 1, key, out)
         }
-        Edit::Compose => {
-            points[m] = key;
-            let n = m + 1;
-            compose_step(k, key, tone, raw, &points[0..n], out)
-        }
+        Edit::Compose => compose_in(k, key, tone, bytes, n, points, out),
     }
 }
 
@@ -473,7 +480,7 @@ fn step_in(
     points: &mut [u16],
     out: &mut [u8],
 ) -> TextAnswer
-    requires { ⌜ (key ≤ 0x7F) × (length (now text) ≤ 256) × (5 * length (now text) < 2 * length (now bytes)) × (length (now bytes) ≤ length (now points) / 3 * 2) ⌝ }
+    requires { ⌜ (key ≤ 0x7F) × (length (now text) ≤ 256) × (5 * length (now text) + 4 ≤ 2 * length (now bytes)) × (length (now bytes) ≤ length (now points) / 3 * 2) × (length (now bytes) + 1 < length (now points)) ⌝ }
     ensures { λ r. ⌜ textReply r (now (out .exit)) ≡ textCall unicode16 (stepOf unicode16 k key) (now (text .entry)) (now (out .entry)) ⌝ }
 {
     match strip::strip_tone_diacritic(text, bytes) {
@@ -482,28 +489,20 @@ fn step_in(
             let len = result.len;
             let n = len.0;
             let tone = result.tone;
-            let edit = edit_of(k, key as u16, tone, text, points);
-            match unicode::points(&bytes[0..n], points) {
-                Decoded::Refused(why) => TextAnswer::Refused(why),
-                Decoded::Points(count) => {
-                    let m = count.0;
-                    bytes[n] = key;
-                    let end = n + 1;
-                    finish(k, key as u16, tone, edit, &bytes[0..end], points, m, out)
-                }
-            }
+            let edit = edit_of(k, key as u16, tone, text);
+            finish(k, key, tone, edit, bytes, n, points, out)
         }
     }
 }
 
-// In buffers for a text of at most 32 bytes: clearing small ones is quicker. A stripped text has at most five bytes for each two of the text,
-// and the key takes one more.
+// In buffers for a text of at most 8 bytes, as a syllable is: clearing small ones is quicker. A stripped text has at most five bytes for each two of
+// the text, and the key takes one more.
 fn step_short(k: ToneKeys, key: u8, text: &[u8], out: &mut [u8]) -> TextAnswer
-    requires { ⌜ (key ≤ 0x7F) × (length (now text) ≤ 32) ⌝ }
+    requires { ⌜ (key ≤ 0x7F) × (length (now text) ≤ 8) ⌝ }
     ensures { λ r. ⌜ textReply r (now (out .exit)) ≡ textCall unicode16 (stepOf unicode16 k key) (now (text .entry)) (now (out .entry)) ⌝ }
 {
-    let mut bytes = [0u8; 81];
-    let mut points = [0u16; 123];
+    let mut bytes = [0u8; 22];
+    let mut points = [0u16; 33];
     step_in(k, key, text, &mut bytes, &mut points, out)
 }
 
@@ -512,7 +511,7 @@ fn step_long(k: ToneKeys, key: u8, text: &[u8], out: &mut [u8]) -> TextAnswer
     requires { ⌜ (key ≤ 0x7F) × (length (now text) ≤ 256) ⌝ }
     ensures { λ r. ⌜ textReply r (now (out .exit)) ≡ textCall unicode16 (stepOf unicode16 k key) (now (text .entry)) (now (out .entry)) ⌝ }
 {
-    let mut bytes = [0u8; 641];
+    let mut bytes = [0u8; 642];
     let mut points = [0u16; 963];
     step_in(k, key, text, &mut bytes, &mut points, out)
 }
@@ -537,7 +536,7 @@ pub fn convert_to_telex(
         return TextAnswer::Refused(Refusal::Argument);
     }
     let k = keys_in(mode, keys);
-    if text.len() <= 32 {
+    if text.len() <= 8 {
         return step_short(k, key, text, out);
     }
     if text.len() <= 256 {

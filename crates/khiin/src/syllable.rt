@@ -1,3 +1,3 @@
 // Syllables.
 pub mod compose;
-pub(crate) mod quick;
+pub(crate) mod marking;

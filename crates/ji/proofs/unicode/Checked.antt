@@ -12,7 +12,8 @@ use Rattle.ucd.specs.Table.{Table}
 use Rattle.ucd.specs.Unicode16.{unicode16}
 use Rattle.ucd.proofs.Tests.{true-passes}
 use Rattle.ucd.proofs.Unicode16.{member-below}
-use Rattle.ji.specs.Utf8.{decode, encode}
+use Rattle.ji.specs.Text.{last}
+use Rattle.ji.specs.Utf8.{decode, encode, lastPoint}
 use Rattle.ji.specs.Unicode.{members}
 use Rattle.ji.specs.Reply.{Checked, good, bad, pickChecked, checkPoints, checkWithin}
 use Rattle.ji.specs.declared.reply.Refusal.{Refusal}
@@ -20,11 +21,16 @@ use Rattle.ji.specs.declared.reply.Refusal.the-variants.{TooLong, Outsid
 use Rattle.ji.proofs.Bools.{either}
 use Rattle.ji.proofs.Replies.{within-points}
 use Rattle.ji.proofs.unicode.Laws.{members-all}
+use Rattle.ji.proofs.utf8.Last.{point-bytes}
 use Rattle.ji.proofs.utf8.RoundTrip.{decode-encode, encode-decode}
 
 -- the bytes of a text of the table are read back
 pub read-back : (s : List ℕ) → members unicode16 s ≡ true → decode (encode s) ≡ some s
 read-back s h = decode-encode s (members-all unicode16 (λ x. x < 0xD800) (λ c m. member-below c (true-passes _ m)) s h)
+
+-- the last code point is read back from the end of the bytes
+pub last-back : (s : List ℕ) → members unicode16 s ≡ true → lastPoint (encode s) ≡ last s
+last-back s h = point-bytes s (members-all unicode16 (λ x. x < 0xD800) (λ c m. member-below c (true-passes _ m)) s h)
 
 -- and are that text
 pub points-good : (s : List ℕ) → members unicode16 s ≡ true → checkPoints unicode16 (decode (encode s)) ≡ good s

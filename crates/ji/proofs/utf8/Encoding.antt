@@ -1,7 +1,7 @@
 -- Encoding, one code point at a time, and how long it gets.
 use mathlib.Core.Path.{_≡_, refl, sym, ap, _∙_}
 use mathlib.Core.List.{List, [], _∷_, _++_, append-assoc}
-use Prim.Native.Nat.{ℕ, _+_, _*_, _/_, _%_, _≤_, _<_}
+use Prim.Native.Nat.{ℕ, suc, _+_, _*_, _/_, _%_, _≤_, _<_}
 use native.Mathlib.Omega.{arith}
 use native.Mathlib.Numerals.{add-one}
 use native.Mathlib.Decide.{decLe}
@@ -69,3 +69,9 @@ length-at s i h = ap length (encode-at s i h) ∙ length-append (bytesOf (getD s
 
 pub length-end : (s : List ℕ) (i : ℕ) → length s ≤ i → length (encode (drop i s)) ≡ 0
 length-end s i h = ap length (encode-end s i h)
+
+-- a text of such code points has at most three bytes for each
+pub encode-most : (s : List ℕ) → ((i : ℕ) → getD s i 0 ≤ 0xFFFF) → length (encode s) ≤ 3 * length s
+encode-most [] h = omega (arith, ap length encode-nil)
+encode-most (x ∷ s) h =
+    omega (arith, ap length (encode-cons x s), length-append (bytesOf x) (encode s), bytes-most x (h 0), encode-most s (λ i. h (suc i)))

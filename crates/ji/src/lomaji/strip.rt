@@ -271,12 +271,15 @@ fn strip_long(text: &[u8], out: &mut [u8]) -> Strip
     strip_by(text, &mut bytes, out)
 }
 
-// The text without its tone marks, in NFD, in `out`, and its tone.
+// The text without its tone marks, in NFD, in `out`, and its tone. An ASCII text is its own NFD and has no mark.
 pub fn strip_tone_diacritic(text: &[u8], out: &mut [u8]) -> Strip
     ensures { λ r. ⌜ stripReply r (now (out .exit)) ≡ stripCall unicode16 (now (text .entry)) (now (out .entry)) ⌝ }
 {
     if 256 < text.len() {
         return Strip::Refused(Refusal::TooLong);
+    }
+    if unicode::is_ascii(text) {
+        return place_bytes(text, Tone::None, out);
     }
     if text.len() <= 32 {
         return strip_short(text, out);

@@ -8,6 +8,7 @@ use crate::unicode::Decoded;
 ghost use mathlib.Core.Path.{_≡_};
 ghost use mathlib.Core.List.{[], _∷_};
 ghost use Prim.Native.Nat.{_<_, _≤_};
+ghost use lib.Dec.{eqb};
 ghost use lib.ListN.{length, drop, getD};
 ghost use Rattle.ucd.specs.Table.{listed};
 ghost use Rattle.ji.specs.Text.{points, point, lower};
@@ -99,7 +100,7 @@ fn follows_o(s: &[u16], at: usize) -> bool
 // The letter that pattern `k` begins with.
 fn first_of(k: usize) -> u16
     requires { ⌜ k < 9 ⌝ }
-    ensures { λ r. ⌜ r ≡ point (getD (getD patterns k ([], 0) .0) 0 "") ⌝ }
+    ensures { λ r. ⌜ (r ≡ point (getD (getD patterns k ([], 0) .0) 0 "")) × (0x61 ≤ r) × (r ≤ 0x7A) ⌝ }
 {
     match k {
         0 => O,
@@ -114,21 +115,33 @@ fn first_of(k: usize) -> u16
     }
 }
 
-// Whether pattern `k` stands at `at`. Its first letter decides for nearly every place, so no other is read before that one fits.
-fn stands_at(s: &[u16], at: usize, k: usize) -> bool
-    requires { ⌜ (k < 9) × (at < length (now s)) ⌝ }
+// Whether `x` is the small letter `small` with its case ignored.
+fn is_letter(x: u16, small: u16) -> bool
+    requires { ⌜ (0x61 ≤ small) × (small ≤ 0x7A) ⌝ }
+    ensures { λ r. ⌜ r ≡ eqb (lower x) small ⌝ }
+{
+    if x == small {
+        return true;
+    }
+    x == small - 32
+}
+
+// Whether pattern `k`, whose first letter is `first`, stands at `at`. Its first letter decides for nearly every place, so no other is read before
+// that one fits.
+fn stands_at(s: &[u16], at: usize, k: usize, first: u16) -> bool
+    requires { ⌜ (k < 9) × (at < length (now s)) × (first ≡ point (getD (getD patterns k ([], 0) .0) 0 "")) × (0x61 ≤ first) × (first ≤ 0x7A) ⌝ }
     ensures { λ r. ⌜ r ≡ matches (getD patterns k ([], 0) .0) (drop at (now (s .entry))) ⌝ }
 {
-    if letter_at(s, at) != first_of(k) {
-        return false;
+    if is_letter(s[at], first) {
+        if k == 0 {
+            return follows_o(s, at + 1);
+        }
+        if k == 6 {
+            return letter_at(s, at + 1) == G;
+        }
+        return true;
     }
-    if k == 0 {
-        return follows_o(s, at + 1);
-    }
-    if k == 6 {
-        return letter_at(s, at + 1) == G;
-    }
-    true
+    false
 }
 
 // Which letter of pattern `k` is the tone letter: the second of the first pattern, the first of every other.
@@ -146,9 +159,10 @@ pub fn tone_position(s: &[u16]) -> Place
     let mut place = Place::Nowhere;
     let mut k: usize = 0;
     'patterns: while k < PATTERNS {
+        let first = first_of(k);
         let mut at: usize = 0;
         while at < s.len() {
-            if stands_at(s, at, k) {
+            if stands_at(s, at, k, first) {
                 place = Place::At(CharLen(at + letter_of(k)));
                 break 'patterns;
             }
@@ -157,6 +171,30 @@ pub fn tone_position(s: &[u16]) -> Place
         k += 1;
     }
     place
+}
+
+// The letters that are a pattern by themselves.
+fn is_single(x: u16) -> bool
+    ensures { λ r. ⌜ r ≡ listed (points "oaeuinm") x ⌝ }
+{
+    match x {
+        O | A | E | U | I | N | M => true,
+        _ => false,
+    }
+}
+
+// Whether `s` has a tone letter: each pattern begins with a letter that is a pattern by itself, so that it does if it has one of these.
+pub fn holds_letter(s: &[u16]) -> bool
+    ensures { λ r. ⌜ r ≡ isSome (toneLetter (now (s .entry))) ⌝ }
+{
+    let mut i: usize = 0;
+    while i < s.len() {
+        if is_single(letter_at(s, i)) {
+            return true;
+        }
+        i += 1;
+    }
+    false
 }
 
 // What the call answers: where the tone letter stands, in bytes, or that there is none.
@@ -218,8 +256,9 @@ pub fn has_tone_letter(text: &[u8]) -> HasToneLetter
 fn has_letter(s: &[u16]) -> HasToneLetter
     ensures { λ r. ⌜ hasToneLetterReply r ≡ hasLetterReply (isSome (toneLetter (now (s .entry)))) ⌝ }
 {
-    match tone_position(s) {
-        Place::At(_) => HasToneLetter::Yes,
-        Place::Nowhere => HasToneLetter::No,
+    if holds_letter(s) {
+        HasToneLetter::Yes
+    } else {
+        HasToneLetter::No
     }
 }

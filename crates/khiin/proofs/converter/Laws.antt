@@ -2,24 +2,29 @@
 use mathlib.Core.Path.{_≡_, refl, sym, ap, ap₂, _∙_}
 use mathlib.Core.Bool.{Bool, true, false, not, _&&_, _||_}
 use mathlib.Core.List.{List, [], _∷_, _++_, map}
-use Prim.Native.Nat.{ℕ, suc, _+_, _-_, _≤_, _<_}
+use Prim.Native.Nat.{ℕ, zero, suc, _+_, _-_, _≤_, _<_}
 use native.Mathlib.Nat.{suc-sub-suc, sub-zero}
 use native.Mathlib.Numerals.{add-one}
 use native.Mathlib.Omega.{arith}
 use native.Mathlib.Decide.{ℕ-discrete}
 use borrow.Author.Tests.{ne-eqb}
 use lib.Dec.{eqb}
-use lib.ListN.{length, take, drop, getD, set, drop-of-length-le, length-append}
-use lib.Seq.{length-take-le, take-length, take-take, take-at, take-suc-set, getD-take}
-use Rattle.ji.specs.Unicode.{Table, pickText, pickNumber, same, listed}
+use lib.ListN.{length, take, drop, getD, set, drop-of-length-le}
+use lib.Seq.{length-take-le, take-take, take-suc-set}
+use Rattle.ji.specs.Unicode.{Table, unicode16, member, members, pickText, pickNumber, same, listed}
 use Rattle.ji.specs.Text.{points, marked, point, within, lower, begins, replaceAll, butLast, last}
+use Rattle.ji.specs.Utf8.{decode, encode, lastStart, lastPoint}
+use Rattle.ji.specs.Reply.{good, checkPoints}
 use Rattle.ji.specs.Tone.{isTone}
 use Rattle.ji.specs.Lomaji.ToneLetter.{toneLetter, isSome, hasToneLetter}
 use Rattle.ji.specs.declared.tone.Tone.{Tone}
 use Rattle.ji.specs.declared.tone.Tone.the-variants.{None}
 use Rattle.ji.specs.declared.lomaji.khin.Khin.the-variants.{No}
 use Rattle.ji.specs.Lomaji.Keys.{respell}
-use Rattle.ji.proofs.Bools.{and-no, and-true, and-false, or-no}
+use Rattle.ji.proofs.Bools.{and-yes, and-no, and-true, and-false, and-left, and-right, or-no}
+use Rattle.ji.proofs.Replies.{within-points}
+use Rattle.ji.proofs.unicode.Bytes.{bytes-one, encode-nil, encode-cons, encode-append, last-skip, front-bytes}
+use Rattle.ji.proofs.unicode.Checked.{Passed, check-passed, last-back}
 use Rattle.ji.proofs.text.Laws.{drop-next, replace-nil, replace-hit, replace-miss, replace-short, replacePoints, points-first, points-second, points-other}
 use Rattle.khiin.specs.Syllable.{compose}
 use Rattle.khiin.specs.Converter.{keyToTone, toneToKey, endsWith, repeatsTone, opensNasal, opensDot, opensO, opensU, eLike, grown, nasalSigns, endsInStop, sharedOr, toned, joined, bare, isFirst, composedStep, step}
@@ -164,11 +169,6 @@ unfolding endsWith
 ends-skip e s x h =
     ap (λ (k : ℕ). same (drop k (x ∷ s)) e) (let z : suc (length s) - length e ≡ suc (length s - length e) = omega arith in z)
 
-last-skip : (x y : ℕ) (s : List ℕ) → last (x ∷ y ∷ s) ≡ last (y ∷ s)
-unfolding last
-last-skip x y s =
-    ap (λ (k : ℕ). getD (x ∷ y ∷ s) k 0) (let z : suc (suc (length s)) - 1 ≡ suc (suc (length s) - 1) = omega arith in z)
-
 but-skip : (x y : ℕ) (s : List ℕ) → butLast 1 (x ∷ y ∷ s) ≡ x ∷ butLast 1 (y ∷ s)
 unfolding butLast
 but-skip x y s =
@@ -255,26 +255,34 @@ module _ (key : ℕ) (given : List ℕ) where
   unfolding editBy
   edit-other a b c = edit-at ∙ rw (ne-eqb low (point "n") a, ne-eqb low (point "u") b, ne-eqb low (point "o") c)
 
--- the code points that the code reads: the last behind a cut, or 0 where there is none
-pub last-none : (s : List ℕ) (cut : ℕ) → length s ≤ cut → 0 ≡ last (butLast cut s)
-unfolding last butLast
-last-none s cut h = sym (ap (λ (m : ℕ). getD (take m s) (length (take m s) - 1) 0) (let z : length s - cut ≡ 0 = omega arith in z))
+-- the branch by what was read from the end of the bytes
+members-take : (n : ℕ) (s : List ℕ) → members unicode16 s ≡ true → members unicode16 (take n s) ≡ true
+unfolding members
+members-take zero s h = refl
+members-take (suc n) [] h = refl
+members-take (suc n) (x ∷ s) h =
+    and-yes _ _ (and-left (member unicode16 x) (members unicode16 s) h) ∙ members-take n s (and-right (member unicode16 x) (members unicode16 s) h)
 
-pub last-there : (s : List ℕ) (cut : ℕ) → cut < length s → getD s (length s - cut - 1) 0 ≡ last (butLast cut s)
-unfolding last butLast
-last-there s cut h =
-    let m = length s - cut in
-    let size : length (take m s) ≡ m = length-take-le m s (omega arith) in
-    let inside : m - 1 < m = omega arith in
-    sym (ap (λ (i : ℕ). getD (take m s) (i - 1) 0) size ∙ getD-take m s (m - 1) 0 inside)
+module _ (key : ℕ) (given text : List ℕ) (is : checkPoints unicode16 (decode text) ≡ good given) where
+  passed : Passed unicode16 (length text) text given
+  passed = check-passed unicode16 (length text) text given (within-points unicode16 text (length text) (omega arith) ∙ is)
 
--- the branch by what was read
-pub edit-read : (key : ℕ) (given : List ℕ) (low b before end : ℕ) → low ≡ lower key → b ≡ last (butLast 1 given) → before ≡ lower b → end ≡ last (butLast 0 given) → editBy low before end ≡ editAt key given
-unfolding butLast
-edit-read key given low b before end el eb ebefore eend =
-    ap₂ (λ (x y : ℕ). editBy x y end) el (ebefore ∙ ap lower eb)
-    ∙ ap (editBy (lower key) (lower (last (butLast 1 given)))) (eend ∙ ap last (ap (λ (m : ℕ). take m given) (sub-zero (length given)) ∙ take-length given))
-    ∙ sym (edit-at key given)
+  end-read : lastPoint text ≡ last given
+  end-read = ap lastPoint (sym (passed .written)) ∙ last-back given (passed .inside)
+
+  before-read : lastPoint (take (lastStart text) text) ≡ last (butLast 1 given)
+  unfolding butLast
+  before-read =
+      ap (λ (l : List ℕ). lastPoint (take (lastStart l) l)) (sym (passed .written))
+      ∙ ap lastPoint (front-bytes given)
+      ∙ last-back (butLast 1 given) (members-take (length given - 1) given (passed .inside))
+
+  pub edit-read : {low n b before end : ℕ} → low ≡ lower key → n ≡ lastStart text → b ≡ lastPoint (take (n - 0) text) → before ≡ lower b → end ≡ lastPoint text → editBy low before end ≡ editAt key given
+  edit-read {end = end} el en eb ebefore eend =
+      let b-is = eb ∙ ap (λ (m : ℕ). lastPoint (take m text)) (sub-zero _ ∙ en) ∙ before-read in
+      ap₂ (λ (x y : ℕ). editBy x y end) el (ebefore ∙ ap lower b-is)
+      ∙ ap (editBy (lower key) (lower (last (butLast 1 given)))) (eend ∙ end-read)
+      ∙ sym (edit-at key given)
 
 module _ (k : ToneKeys) (key : ℕ) (tone : Tone) (given : List ℕ) where
   pub edit-behind : repeatsTone k key tone ≡ true → Behind ≡ editOf k key tone given
@@ -386,16 +394,22 @@ module _ (t : Table) (k : ToneKeys) (key : ℕ) (tone : Tone) (rest : List ℕ) 
 pub stored-key : (p : List ℕ) (m key : ℕ) → m < length p → take (m + 1 - 0) (set p m key) ≡ take m p ++ (key ∷ [])
 stored-key p m key h = ap (λ (n : ℕ). take n (set p m key)) (sub-zero (m + 1) ∙ add-one m) ∙ take-suc-set p m key h
 
--- the first m without the last n
-pub but-take : (n m : ℕ) (p : List ℕ) → m ≤ length p → butLast n (take m p) ≡ take (m - n) p
+-- without the last two code points, one after the other
+pub but-two : (s : List ℕ) → butLast 1 (butLast 1 s) ≡ butLast 2 s
 unfolding butLast
-but-take n m p h =
-    let less : m - n ≤ m = omega arith in
-    ap (λ (l : ℕ). take (l - n) (take m p)) (length-take-le m p h) ∙ take-take (m - n) m p less
+but-two s =
+    let n : ℕ = length s - 1 in
+    let few : n ≤ length s = omega arith in
+    let less : n - 1 ≤ n = omega arith in
+    let two : n - 1 ≡ length s - 2 = omega arith in
+    ap (λ (l : ℕ). take (l - 1) (take n s)) (length-take-le n s few) ∙ take-take (n - 1) n s less ∙ ap (λ (m : ℕ). take m s) two
 
--- a text without the key behind it
-pub but-key : (s : List ℕ) (key : ℕ) → butLast 1 (s ++ (key ∷ [])) ≡ s
-unfolding butLast
-but-key s key =
-    ap (λ (l : ℕ). take l (s ++ (key ∷ []))) (let z : length (s ++ (key ∷ [])) - 1 ≡ length s = omega (arith, length-append s (key ∷ [])) in z)
-    ∙ take-at s (key ∷ []) (length s) refl
+-- the bytes of a text and of an ASCII key behind it
+pub key-behind : (rest : List ℕ) (key : ℕ) → key ≤ 0x7F → encode rest ++ (key ∷ []) ≡ encode (rest ++ (key ∷ []))
+key-behind rest key h =
+    sym (encode-append rest (key ∷ []) ∙ ap (λ (l : List ℕ). encode rest ++ l) (encode-cons key [] ∙ ap₂ _++_ (bytes-one key h) encode-nil))
+
+-- the bytes that are left before the last code point
+pub cut-bytes : (bytes rest : List ℕ) (n r : ℕ) → take n bytes ≡ encode rest → r ≡ lastStart (take n bytes) → r ≤ n → take r bytes ≡ encode (butLast 1 rest)
+cut-bytes bytes rest n r e f h =
+    sym (take-take r n bytes h) ∙ ap₂ take (f ∙ ap lastStart e) e ∙ front-bytes rest

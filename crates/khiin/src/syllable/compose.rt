@@ -1,79 +1,33 @@
-// `compose`: the text of a syllable. The body is spelled by the rules, the tone mark put behind the tone letter, and the whole put into
-// compose's encoding. Most bodies are touched by no rule, which one walk tells.
-use crate::syllable::quick::compose_quick;
-use crate::syllable::quick::is_settled;
-use crate::syllable::quick::is_two;
-use crate::syllable::quick::joined;
+// `compose`: the text of a syllable. The body is spelled by the rules, in place, the tone mark put to the tone letter, and the whole written in
+// compose's encoding. Most bodies have one pair of vowels at most, and a sign at their end only: for these each rule is one look.
+use crate::syllable::marking::insert_mark;
+use crate::syllable::marking::place_spelled;
 use ji::lomaji::khin::Khin;
-use ji::lomaji::tone_letter::Place;
-use ji::lomaji::tone_letter::tone_position;
-use ji::nfc::Normalised;
-use ji::nfc::normalise;
-use ji::reply;
 use ji::reply::Refusal;
 use ji::reply::TextAnswer;
 use ji::text::replace_pair;
 use ji::tone::Tone;
 use ji::unicode;
-use ji::unicode::CharLen;
 use ji::unicode::Decoded;
 use ji::unicode::Verdict;
 ghost use mathlib.Core.Path.{_≡_};
 ghost use mathlib.Core.Bool.{true, false, _&&_};
 ghost use mathlib.Core.List.{List, [], _∷_, _++_};
-ghost use Prim.Native.Nat.{ℕ, _+_, _*_, _/_, _≤_, _<_};
+ghost use Prim.Native.Nat.{ℕ, _+_, _-_, _*_, _/_, _≤_, _<_};
 ghost use lib.ListN.{length, take, drop, getD};
-ghost use lib.Seq.{paste};
 ghost use Rattle.ji.specs.Unicode.{unicode16, listed};
-ghost use Rattle.ji.specs.Text.{points, marked, begins, replaceAll, lower as lowerOf};
+ghost use Rattle.ji.specs.Text.{points as pointsOf, marked, begins, replaceAll, lower as lowerOf};
 ghost use Rattle.ji.specs.Utf8.{encode};
 ghost use Rattle.ji.specs.Written.{Written};
 ghost use Rattle.ji.specs.Reply.{placed, textReply, good, checkText};
 ghost use Rattle.ji.specs.Lomaji.Keys.{respell};
-ghost use Rattle.khiin.specs.Syllable.{vowelRules, nasalRules, oRules, endsNasal, nasalised, moved, spelled, khinText, markOf, encoded, compose, composeOf, composeCall};
-ghost use Rattle.khiin.specs.Compose.{Front, markText, isPair, apartFrom, oPairs, ePairs, takesDot, settledFrom, inserted, composedText, Composing};
+ghost use Rattle.khiin.specs.Syllable.{vowelRules, nasalRules, oRules, endsNasal, nasalised, moved, spelled, khinText, compose, composeOf, composeCall};
+ghost use Rattle.khiin.specs.Compose.{Front, isPair, apartFrom, oPairs, ePairs, takesDot, NoPairIn, NoNasalBefore, NoSignBefore, settledBody, SettledAs, DotAt};
 
 // The signs of a nasal vowel, small and capital. No code point of the table below the first of them is one.
 const SMALL_SIGN: u16 = 0x207F;
 
 const CAPITAL_SIGN: u16 = 0x1D3A;
-
-// What a tone adds.
-pub(crate) enum Mark {
-    Nothing,
-    Point(u16),
-}
-
-// The mark of a tone.
-pub(crate) fn mark_of(tone: Tone) -> Mark
-    ensures { λ r. ⌜ markText r ≡ markOf tone ⌝ }
-{
-    match tone {
-        Tone::None => Mark::Nothing,
-        Tone::T1 => Mark::Nothing,
-        Tone::T2 => Mark::Point(0x0301),
-        Tone::T3 => Mark::Point(0x0300),
-        Tone::T4 => Mark::Nothing,
-        Tone::T5 => Mark::Point(0x0302),
-        Tone::T6 => Mark::Point(0x0303),
-        Tone::T7 => Mark::Point(0x0304),
-        Tone::T8 => Mark::Point(0x030D),
-        Tone::T9 => Mark::Point(0x0306),
-    }
-}
-
-// Writes `src` into `out` from `at` on, and returns the place behind it.
-fn put(src: &[u16], out: &mut [u16], at: usize) -> usize
-    requires { ⌜ at + length (now src) ≤ length (now out) ⌝ }
-    ensures { λ r. ⌜ (r ≡ at + length (now (src .entry))) × (now (out .exit) ≡ paste (now (out .entry)) at (now (src .entry)) (length (now (src .entry)))) ⌝ }
-{
-    let mut k: usize = 0;
-    while k < src.len() {
-        out[at + k] = src[k];
-        k += 1;
-    }
-    at + k
-}
 
 // The code point at `i`, and 0 past the end, which no rule has.
 fn at(s: &[u16], i: usize) -> u16
@@ -99,8 +53,8 @@ pub(crate) fn lower(x: u16) -> u16
 }
 
 // The first letter of a pair of vowels that is replaced: o or e.
-pub(crate) fn is_first(c: u16) -> bool
-    ensures { λ r. ⌜ r ≡ listed (points "oOeE") c ⌝ }
+fn is_first(c: u16) -> bool
+    ensures { λ r. ⌜ r ≡ listed (pointsOf "oOeE") c ⌝ }
 {
     match c {
         0x45 | 0x4F | 0x65 | 0x6F => true,
@@ -109,8 +63,8 @@ pub(crate) fn is_first(c: u16) -> bool
 }
 
 // The second: o or u.
-pub(crate) fn is_second(c: u16) -> bool
-    ensures { λ r. ⌜ r ≡ listed (points "oOuU") c ⌝ }
+fn is_second(c: u16) -> bool
+    ensures { λ r. ⌜ r ≡ listed (pointsOf "oOuU") c ⌝ }
 {
     match c {
         0x4F | 0x55 | 0x6F | 0x75 => true,
@@ -129,51 +83,49 @@ fn is_pair(s: &[u16], i: usize) -> bool
     false
 }
 
-// The letters that nn may follow at the end of a text, in lower case.
-fn takes_nasal(c: u16) -> bool
-    ensures { λ r. ⌜ r ≡ listed (marked "aeiouptkhm" 0x0358) c ⌝ }
+// Where the first such pair stands from `from` on, and the length of `s` where there is none.
+fn next_pair(s: &[u16], from: usize) -> usize
+    requires { ⌜ from ≤ length (now s) ⌝ }
+    ensures { λ r. ⌜ (from ≤ r) × (r ≤ length (now (s .entry))) × NoPairIn from r (now (s .entry)) × (r < length (now (s .entry)) → isPair (drop r (now (s .entry))) ≡ true) ⌝ }
 {
-    match c {
-        0x61 | 0x65 | 0x68 | 0x69 | 0x6B | 0x6D | 0x6F | 0x70 | 0x74 | 0x75 | 0x0358 => true,
-        _ => false,
-    }
-}
-
-// Whether the text ends in such a letter and nn.
-pub(crate) fn ends_nasal(s: &[u16]) -> bool
-    ensures { λ r. ⌜ r ≡ endsNasal (now (s .entry)) ⌝ }
-{
-    let n = s.len();
-    if n < 3 {
-        return false;
-    }
-    if lower(s[n - 1]) != 0x6E {
-        return false;
-    }
-    if lower(s[n - 2]) != 0x6E {
-        return false;
-    }
-    takes_nasal(lower(s[n - 3]))
-}
-
-// Whether no rule touches `s`: it has no pair of vowels and no sign, and does not end in nn.
-fn is_plain(s: &[u16]) -> bool
-    ensures { λ r. ⌜ (r ≡ true → spelled (now (s .entry)) ≡ now (s .entry)) ⌝ }
-{
-    let mut i: usize = 0;
+    let mut i: usize = from;
     while i < s.len() {
-        if CAPITAL_SIGN <= s[i] {
-            return false;
-        }
         if is_pair(s, i) {
-            return false;
+            return i;
         }
         i += 1;
     }
-    if ends_nasal(s) {
+    i
+}
+
+// Whether the pair at `at`, the first, is the only one, and no o or e stands before it, which what becomes of it might be a pair with.
+fn is_alone(s: &[u16], at: usize) -> bool
+    requires { ⌜ at < length (now s) ⌝ }
+    ensures { λ r. ⌜ (r ≡ true → NoPairIn (at + 1) (length (now (s .entry))) (now (s .entry)) × (0 < at → listed (pointsOf "oOeE") (getD (now (s .entry)) (at - 1) 0) ≡ false)) ⌝ }
+{
+    if next_pair(s, at + 1) < s.len() {
         return false;
     }
-    true
+    if at == 0 {
+        return true;
+    }
+    !is_first(s[at - 1])
+}
+
+// Replaces the pair at `at`: the vowel behind o gives way to U+0358; that behind e takes its place, with U+0324. 4F is O, 6F is o.
+fn respell_one(s: &mut [u16], at: usize)
+    requires { ⌜ (at + 1 < length (now s)) × (isPair (drop at (now s)) ≡ true) × NoPairIn 0 at (now s) × NoPairIn (at + 1) (length (now s)) (now s) × (0 < at → listed (pointsOf "oOeE") (getD (now s) (at - 1) 0) ≡ false) ⌝ }
+    ensures { λ _. ⌜ now (s .exit) ≡ respell vowelRules (now (s .entry)) ⌝ }
+{
+    match s[at] {
+        0x4F | 0x6F => {
+            s[at + 1] = 0x358;
+        }
+        _ => {
+            s[at] = s[at + 1];
+            s[at + 1] = 0x324;
+        }
+    }
 }
 
 // The vowel rules for o and the vowel behind it, which gives way to U+0358, in place: they keep the length. 4F is O, 6F is o.
@@ -233,23 +185,6 @@ fn has_letters(s: &[u16], a: u16, b: u16, c: u16, d: u16) -> bool
     false
 }
 
-// Whether anywhere in `s` stands a pair of vowels that is replaced.
-fn has_pair(s: &[u16]) -> bool
-    ensures { λ r. ⌜ (r ≡ false → apartFrom (points "oOeE") (points "oOuU") 0 (now (s .entry)) ≡ true) ⌝ }
-{
-    let mut before: u16 = 0;
-    let mut i: usize = 0;
-    while i < s.len() {
-        let x = s[i];
-        if is_two(before, x) {
-            return true;
-        }
-        before = x;
-        i += 1;
-    }
-    false
-}
-
 // The rules for o, where one of them has something to do: one look tells.
 fn respell_any_o(s: &mut [u16], small: u16, capital: u16)
     ensures { λ _. ⌜ now (s .exit) ≡ respell (oPairs small capital) (now (s .entry)) ⌝ }
@@ -284,10 +219,42 @@ fn respell_groups(s: &mut [u16])
 fn respell_vowels(s: &mut [u16])
     ensures { λ _. ⌜ now (s .exit) ≡ respell vowelRules (now (s .entry)) ⌝ }
 {
-    if has_pair(s) {
+    let at = next_pair(s, 0);
+    if at < s.len() {
+        if is_alone(s, at) {
+            respell_one(s, at);
+            return;
+        }
         respell_groups(s);
         return;
     }
+}
+
+// The letters that nn may follow at the end of a text, in lower case.
+fn takes_nasal(c: u16) -> bool
+    ensures { λ r. ⌜ r ≡ listed (marked "aeiouptkhm" 0x0358) c ⌝ }
+{
+    match c {
+        0x61 | 0x65 | 0x68 | 0x69 | 0x6B | 0x6D | 0x6F | 0x70 | 0x74 | 0x75 | 0x0358 => true,
+        _ => false,
+    }
+}
+
+// Whether the text ends in such a letter and nn.
+fn ends_nasal(s: &[u16]) -> bool
+    ensures { λ r. ⌜ r ≡ endsNasal (now (s .entry)) ⌝ }
+{
+    let n = s.len();
+    if n < 3 {
+        return false;
+    }
+    if lower(s[n - 1]) != 0x6E {
+        return false;
+    }
+    if lower(s[n - 2]) != 0x6E {
+        return false;
+    }
+    takes_nasal(lower(s[n - 3]))
 }
 
 // Whether at `i` stand `a` and `b`.
@@ -352,14 +319,63 @@ fn respell_nasals(s: &mut [u16]) -> usize
     shrink_pair(&mut s[0..k], 0x4E, 0x4E, CAPITAL_SIGN)
 }
 
-// The same, where the text ends as they ask.
+// Whether nn, case ignored, stands anywhere in `s` but at its end.
+fn has_nasal(s: &[u16]) -> bool
+    ensures { λ r. ⌜ (r ≡ false → NoNasalBefore (now (s .entry))) ⌝ }
+{
+    let mut i: usize = 2;
+    while i < s.len() {
+        if lower(s[i - 2]) == 0x6E {
+            if lower(s[i - 1]) == 0x6E {
+                return true;
+            }
+        }
+        i += 1;
+    }
+    false
+}
+
+// The nasal rules where nn stands at the end only: the sign takes its place. 4E is N.
+fn end_in_sign(s: &mut [u16]) -> usize
+    requires { ⌜ (endsNasal (now s) ≡ true) × NoNasalBefore (now s) ⌝ }
+    ensures { λ r. ⌜ Front (now (s .exit)) r (respell nasalRules (now (s .entry))) ⌝ }
+{
+    let n = s.len();
+    if s[n - 1] == 0x4E {
+        if s[n - 2] == 0x4E {
+            s[n - 2] = CAPITAL_SIGN;
+            return n - 1;
+        }
+    }
+    s[n - 2] = SMALL_SIGN;
+    n - 1
+}
+
+// The nasal rules, where the text ends as they ask.
 fn nasalise(s: &mut [u16]) -> usize
     ensures { λ r. ⌜ Front (now (s .exit)) r (nasalised (now (s .entry))) ⌝ }
 {
     if ends_nasal(s) {
-        return respell_nasals(s);
+        if has_nasal(s) {
+            return respell_nasals(s);
+        }
+        return end_in_sign(s);
     }
     s.len()
+}
+
+// Whether a sign, or what stands above the signs in the table, stands before the end of `s`.
+fn has_sign(s: &[u16]) -> bool
+    ensures { λ r. ⌜ (r ≡ false → NoSignBefore (now (s .entry))) ⌝ }
+{
+    let mut i: usize = 1;
+    while i < s.len() {
+        if CAPITAL_SIGN <= s[i - 1] {
+            return true;
+        }
+        i += 1;
+    }
+    false
 }
 
 // Moves a sign to the end, in place.
@@ -381,13 +397,37 @@ fn move_sign(s: &mut [u16], sign: u16) -> usize
     n
 }
 
-// The nasal rules and the moves to the end.
-fn settle(s: &mut [u16]) -> usize
-    ensures { λ r. ⌜ Front (now (s .exit)) r (moved 0x1D3A (moved 0x207F (nasalised (now (s .entry))))) ⌝ }
+// A text at the front of a buffer: how many code points it has, and whether none before its end is a sign.
+struct Settled {
+    len: usize,
+    lone: bool,
+}
+
+// The moves to the end. A text with no sign before its end has nothing to move.
+fn move_signs(s: &mut [u16]) -> Settled
+    ensures { λ r. ⌜ SettledAs (now (s .exit)) (moved 0x1D3A (moved 0x207F (now (s .entry)))) r ⌝ }
 {
+    if has_sign(s) {
+        let n = move_sign(s, SMALL_SIGN);
+        let m = move_sign(&mut s[0..n], CAPITAL_SIGN);
+        return Settled {
+            len: m,
+            lone: false,
+        };
+    }
+    Settled {
+        len: s.len(),
+        lone: true,
+    }
+}
+
+// The vowel rules, the nasal rules and the moves to the end.
+fn settle(s: &mut [u16]) -> Settled
+    ensures { λ r. ⌜ SettledAs (now (s .exit)) (settledBody (now (s .entry))) r ⌝ }
+{
+    respell_vowels(s);
     let n = nasalise(s);
-    let m = move_sign(&mut s[0..n], SMALL_SIGN);
-    move_sign(&mut s[0..m], CAPITAL_SIGN)
+    move_signs(&mut s[0..n])
 }
 
 // Whether U+0358 goes behind the code point at `i`, by one of the O rules. By number: 48 H, 4F O, 68 h, 6F o.
@@ -459,164 +499,101 @@ fn lead(khin: Khin, out: &mut [u16]) -> usize
     }
 }
 
-// Writes the body as it is spelled, behind what khin puts there, to the front of `out`. `body` is used up.
-fn spell(khin: Khin, body: &mut [u16], out: &mut [u16]) -> usize
-    requires { ⌜ 2 * length (now body) + 2 ≤ length (now out) ⌝ }
-    ensures { λ r. ⌜ Front (now (out .exit)) r (khinText khin ++ spelled (now (body .entry))) × (r ≤ 2 * length (now (body .entry)) + 2) ⌝ }
+// Where U+0358 goes by the O rules in a text with no sign before its end: behind its last letter but the sign, or but h and the sign; 0 where it
+// goes nowhere.
+fn dot_place(s: &[u16]) -> usize
+    ensures { λ r. ⌜ (NoSignBefore (now (s .entry)) → DotAt r (now (s .entry))) ⌝ }
+{
+    let n = s.len();
+    if n < 2 {
+        return 0;
+    }
+    if s[n - 1] < CAPITAL_SIGN {
+        return 0;
+    }
+    if takes_dot(s, n - 2) {
+        return n - 1;
+    }
+    if 2 < n {
+        if takes_dot(s, n - 3) {
+            return n - 2;
+        }
+    }
+    0
+}
+
+// The O rules in place, for the first `n` code points of `s`, which have no sign before their end.
+fn put_dot(s: &mut [u16], n: usize) -> usize
+    requires { ⌜ (n < length (now s)) × NoSignBefore (take n (now s)) ⌝ }
+    ensures { λ r. ⌜ Front (now (s .exit)) r (respell oRules (take n (now (s .entry)))) × (r ≤ n + 1) ⌝ }
+{
+    let at = dot_place(&s[0..n]);
+    if at == 0 {
+        return n;
+    }
+    let m = n + 1;
+    insert_mark(&mut s[0..m], at, 0x0358);
+    m
+}
+
+// Writes `s` by the O rules, behind what khin puts there, to the front of `out`.
+fn write_whole(khin: Khin, s: &[u16], out: &mut [u16]) -> usize
+    requires { ⌜ 2 * length (now s) + 2 ≤ length (now out) ⌝ }
+    ensures { λ r. ⌜ Front (now (out .exit)) r (khinText khin ++ respell oRules (now (s .entry))) × (r ≤ 2 * length (now (s .entry)) + 2) ⌝ }
 {
     let from = lead(khin, out);
-    if is_plain(body) {
-        return put(body, out, from);
-    }
-    respell_vowels(body);
-    let n = settle(body);
-    from + write_dotted(&body[0..n], &mut out[from..])
+    from + write_dotted(s, &mut out[from..])
 }
 
-// Puts `mark` behind the first `k` code points of `s`, in place: what follows moves up by one, over the last.
-fn insert_mark(s: &mut [u16], k: usize, mark: u16)
-    requires { ⌜ k < length (now s) ⌝ }
-    ensures { λ _. ⌜ now (s .exit) ≡ inserted k mark (now (s .entry)) ⌝ }
+// Writes the text of a body that is spelled but for the O rules, from a buffer with room for these and for khin.
+fn place_dotted(raw: &[u8], s: &[u16], tone: Tone, khin: Khin, out: &mut [u8]) -> TextAnswer
+    requires { ⌜ length (now s) ≤ 400 ⌝ }
+    ensures { λ r. ⌜ ((rawInput body : List ℕ) → now (raw .entry) ≡ encode rawInput → settledBody body ≡ now (s .entry) → textReply r (now (out .exit)) ≡ placed 0 (encode (compose unicode16 rawInput body tone khin)) (now (out .entry))) ⌝ }
 {
-    let mut i = s.len() - 1;
-    while k < i {
-        s[i] = s[i - 1];
-        i -= 1;
-    }
-    s[k] = mark;
+    let mut b = [0u16; 803];
+    let n = write_whole(khin, s, &mut b);
+    place_spelled(raw, &mut b, n, tone, out)
 }
 
-// Puts `s` into compose's encoding, NFC with U+0324 U+030D swapped, at the front of `out`.
-fn encode_into(s: &[u16], out: &mut [u16]) -> usize
-    requires { ⌜ 3 * length (now s) ≤ length (now out) ⌝ }
-    ensures { λ r. ⌜ Front (now (out .exit)) r (encoded unicode16 (now (s .entry))) ⌝ }
-{
-    match normalise(s, out) {
-        Normalised::NoRoom => 0,
-        Normalised::Done(len) => {
-            let n = len.0;
-            replace_pair(&mut out[0..n], 0x0324, 0x030D, 0x030D, 0x0324);
-            n
-        }
-    }
-}
-
-// What composing gives: the raw input, or the text at the front of a buffer.
-pub(crate) enum Composed {
-    Raw,
-    Text(CharLen),
-}
-
-// Puts `mark` behind the letter at `k` of the first `n` code points of `s`, in place, and copies what that gives to the front of `out`.
-fn put_marked(n: usize, k: usize, mark: u16, s: &mut [u16], out: &mut [u16]) -> usize
-    requires { ⌜ (k < n) × (n < length (now s)) × (n < length (now out)) ⌝ }
-    ensures { λ r. ⌜ Front (now (out .exit)) r (take (k + 1) (take n (now (s .entry))) ++ (mark ∷ drop (k + 1) (take n (now (s .entry))))) ⌝ }
-{
-    let m = n + 1;
-    insert_mark(&mut s[0..m], k + 1, mark);
-    put(&s[0..m], out, 0)
-}
-
-// The same, put into compose's encoding.
-fn encode_marked(n: usize, k: usize, mark: u16, s: &mut [u16], out: &mut [u16]) -> usize
-    requires { ⌜ (k < n) × (n < length (now s)) × (3 * n + 3 ≤ length (now out)) ⌝ }
-    ensures { λ r. ⌜ Front (now (out .exit)) r (encoded unicode16 (take (k + 1) (take n (now (s .entry))) ++ (mark ∷ drop (k + 1) (take n (now (s .entry)))))) ⌝ }
-{
-    let m = n + 1;
-    insert_mark(&mut s[0..m], k + 1, mark);
-    encode_into(&s[0..m], out)
-}
-
-// The same for a settled text: most letters have a composite with the mark, and give way to it; with 030D none has.
-fn settle_marked(n: usize, k: usize, mark: u16, s: &mut [u16], out: &mut [u16]) -> usize
-    requires { ⌜ (k < n) × (n < length (now s)) × (3 * n + 3 ≤ length (now out)) × (settledFrom 0 (take n (now s)) ≡ true) ⌝ }
-    ensures { λ r. ⌜ Front (now (out .exit)) r (encoded unicode16 (take (k + 1) (take n (now (s .entry))) ++ (mark ∷ drop (k + 1) (take n (now (s .entry)))))) ⌝ }
-{
-    let c = joined(s[k], mark);
-    if 1 < c {
-        s[k] = c;
-        return put(&s[0..n], out, 0);
-    }
-    if c == 1 {
-        if mark == 0x030D {
-            return put_marked(n, k, mark, s, out);
-        }
-    }
-    encode_marked(n, k, mark, s, out)
-}
-
-// The text of the first `n` code points of `s`, with `mark` behind their tone letter, at the front of `out`.
-fn compose_marked(n: usize, mark: u16, s: &mut [u16], out: &mut [u16]) -> Composed
-    requires { ⌜ (n < length (now s)) × (3 * n + 3 ≤ length (now out)) ⌝ }
-    ensures { λ r. ⌜ Composing (composedText unicode16 (take n (now (s .entry))) (mark ∷ [])) (now (out .exit)) r ⌝ }
-{
-    match tone_position(&s[0..n]) {
-        Place::Nowhere => Composed::Raw,
-        Place::At(place) => {
-            let k = place.0;
-            if is_settled(&s[0..n]) {
-                return Composed::Text(CharLen(settle_marked(n, k, mark, s, out)));
-            }
-            Composed::Text(CharLen(encode_marked(n, k, mark, s, out)))
-        }
-    }
-}
-
-// Composes the body that stands in the first `n` places of `a`, and leaves the text at its front.
-fn compose_in(n: usize, tone: Tone, khin: Khin, a: &mut [u16], b: &mut [u16]) -> Composed
-    requires { ⌜ (6 * n + 9 ≤ length (now a)) × (2 * n + 3 ≤ length (now b)) ⌝ }
-    ensures { λ r. ⌜ Composing (composedText unicode16 (khinText khin ++ spelled (take n (now (a .entry)))) (markOf tone)) (now (a .exit)) r ⌝ }
-{
-    let m = spell(khin, &mut a[0..n], b);
-    match mark_of(tone) {
-        Mark::Nothing => Composed::Text(CharLen(encode_into(&b[0..m], a))),
-        Mark::Point(mark) => compose_marked(m, mark, b, a),
-    }
-}
-
-// The same, written to `out`.
-fn place_composed(
+// The same in the buffer `s`, of which the text takes the first `n` places, where it has no khin and no sign before its end.
+fn place_settled(
     raw: &[u8],
+    s: &mut [u16],
+    settled: Settled,
+    tone: Tone,
+    khin: Khin,
+    out: &mut [u8],
+) -> TextAnswer
+    requires { ⌜ (settled .len ≤ 400) × (settled .len + 1 < length (now s)) × (settled .lone ≡ true → NoSignBefore (take (settled .len) (now s))) ⌝ }
+    ensures { λ r. ⌜ ((rawInput body : List ℕ) → now (raw .entry) ≡ encode rawInput → settledBody body ≡ take (settled .len) (now (s .entry)) → textReply r (now (out .exit)) ≡ placed 0 (encode (compose unicode16 rawInput body tone khin)) (now (out .entry))) ⌝ }
+{
+    let n = settled.len;
+    match khin {
+        Khin::Yes => place_dotted(raw, &s[0..n], tone, Khin::Yes, out),
+        Khin::No => {
+            if settled.lone {
+                let m = put_dot(s, n);
+                return place_spelled(raw, s, m, tone, out);
+            }
+            place_dotted(raw, &s[0..n], tone, Khin::No, out)
+        }
+    }
+}
+
+// Composes the body that stands in the first `n` places of `s`, which is used up.
+pub(crate) fn compose_points(
+    raw: &[u8],
+    s: &mut [u16],
     n: usize,
     tone: Tone,
     khin: Khin,
-    a: &mut [u16],
-    b: &mut [u16],
     out: &mut [u8],
 ) -> TextAnswer
-    requires { ⌜ (6 * n + 9 ≤ length (now a)) × (2 * n + 3 ≤ length (now b)) ⌝ }
-    ensures { λ r. ⌜ ((rawInput : List ℕ) → now (raw .entry) ≡ encode rawInput → textReply r (now (out .exit)) ≡ placed 0 (encode (compose unicode16 rawInput (take n (now (a .entry))) tone khin)) (now (out .entry))) ⌝ }
+    requires { ⌜ (n ≤ 400) × (n + 1 < length (now s)) ⌝ }
+    ensures { λ r. ⌜ ((rawInput : List ℕ) → now (raw .entry) ≡ encode rawInput → textReply r (now (out .exit)) ≡ placed 0 (encode (compose unicode16 rawInput (take n (now (s .entry))) tone khin)) (now (out .entry))) ⌝ }
 {
-    match compose_in(n, tone, khin, a, b) {
-        Composed::Raw => reply::place_bytes(raw, out),
-        Composed::Text(len) => {
-            let m = len.0;
-            reply::place(&a[0..m], out)
-        }
-    }
-}
-
-// Composes the code points of a body. Short ones go in small buffers, since clearing these is quicker.
-pub(crate) fn compose_points(
-    raw: &[u8],
-    body: &[u16],
-    tone: Tone,
-    khin: Khin,
-    out: &mut [u8],
-) -> TextAnswer
-    requires { ⌜ length (now body) ≤ 400 ⌝ }
-    ensures { λ r. ⌜ ((rawInput : List ℕ) → now (raw .entry) ≡ encode rawInput → textReply r (now (out .exit)) ≡ placed 0 (encode (compose unicode16 rawInput (now (body .entry)) tone khin)) (now (out .entry))) ⌝ }
-{
-    if body.len() <= 16 {
-        let mut a = [0u16; 105];
-        let mut b = [0u16; 35];
-        let n = put(body, &mut a, 0);
-        return place_composed(raw, n, tone, khin, &mut a, &mut b, out);
-    }
-    let mut a = [0u16; 2409];
-    let mut b = [0u16; 803];
-    let n = put(body, &mut a, 0);
-    place_composed(raw, n, tone, khin, &mut a, &mut b, out)
+    let settled = settle(&mut s[0..n]);
+    place_settled(raw, s, settled, tone, khin, out)
 }
 
 // Reads the body and composes it.
@@ -625,50 +602,37 @@ fn compose_body(
     body: &[u8],
     tone: Tone,
     khin: Khin,
-    a: &mut [u16],
-    b: &mut [u16],
-    out: &mut [u8],
-) -> TextAnswer
-    requires { ⌜ (length (now body) ≤ 256) × (6 * length (now body) + 9 ≤ length (now a)) × (2 * length (now body) + 3 ≤ length (now b)) ⌝ }
-    ensures { λ r. ⌜ ((rawInput : List ℕ) → now (raw .entry) ≡ encode rawInput → textReply r (now (out .exit)) ≡ composeOf unicode16 tone khin (good rawInput) (checkText unicode16 (now (body .entry))) (now (out .entry))) ⌝ }
-{
-    match unicode::points(body, a) {
-        Decoded::Refused(why) => TextAnswer::Refused(why),
-        Decoded::Points(len) => {
-            let n = len.0;
-            place_composed(raw, n, tone, khin, a, b, out)
-        }
-    }
-}
-
-// The same, by the quick way where the body allows it.
-fn compose_read(
-    raw: &[u8],
-    body: &[u8],
-    tone: Tone,
-    khin: Khin,
     points: &mut [u16],
     out: &mut [u8],
 ) -> TextAnswer
-    requires { ⌜ (length (now body) ≤ 256) × (length (now body) ≤ length (now points) / 3 * 2) ⌝ }
+    requires { ⌜ (length (now body) ≤ 256) × (length (now body) ≤ length (now points) / 3 * 2) × (length (now body) + 1 < length (now points)) ⌝ }
     ensures { λ r. ⌜ ((rawInput : List ℕ) → now (raw .entry) ≡ encode rawInput → textReply r (now (out .exit)) ≡ composeOf unicode16 tone khin (good rawInput) (checkText unicode16 (now (body .entry))) (now (out .entry))) ⌝ }
 {
     match unicode::points(body, points) {
         Decoded::Refused(why) => TextAnswer::Refused(why),
         Decoded::Points(len) => {
             let n = len.0;
-            compose_quick(raw, body, &points[0..n], tone, khin, out)
+            compose_points(raw, points, n, tone, khin, out)
         }
     }
 }
 
-// The same for a short body, in a small buffer, since clearing this is quicker.
+// A short body, in a small buffer, since clearing this is quicker.
 fn compose_short(raw: &[u8], body: &[u8], tone: Tone, khin: Khin, out: &mut [u8]) -> TextAnswer
     requires { ⌜ length (now body) ≤ 16 ⌝ }
     ensures { λ r. ⌜ ((rawInput : List ℕ) → now (raw .entry) ≡ encode rawInput → textReply r (now (out .exit)) ≡ composeOf unicode16 tone khin (good rawInput) (checkText unicode16 (now (body .entry))) (now (out .entry))) ⌝ }
 {
     let mut points = [0u16; 24];
-    compose_read(raw, body, tone, khin, &mut points, out)
+    compose_body(raw, body, tone, khin, &mut points, out)
+}
+
+// Any other.
+fn compose_long(raw: &[u8], body: &[u8], tone: Tone, khin: Khin, out: &mut [u8]) -> TextAnswer
+    requires { ⌜ length (now body) ≤ 256 ⌝ }
+    ensures { λ r. ⌜ ((rawInput : List ℕ) → now (raw .entry) ≡ encode rawInput → textReply r (now (out .exit)) ≡ composeOf unicode16 tone khin (good rawInput) (checkText unicode16 (now (body .entry))) (now (out .entry))) ⌝ }
+{
+    let mut points = [0u16; 384];
+    compose_body(raw, body, tone, khin, &mut points, out)
 }
 
 // `compose`: the text of the syllable with this raw input, body, tone and khin, in `out`.
@@ -684,9 +648,7 @@ pub fn compose(raw: &[u8], body: &[u8], tone: Tone, khin: Khin, out: &mut [u8]) 
             if 256 < body.len() {
                 return TextAnswer::Refused(Refusal::TooLong);
             }
-            let mut a = [0u16; 1545];
-            let mut b = [0u16; 515];
-            compose_body(raw, body, tone, khin, &mut a, &mut b, out)
+            compose_long(raw, body, tone, khin, out)
         }
     }
 }

@@ -112,7 +112,7 @@ module _ (s : List ℕ) (x : ℕ) where
   dropped-last e = dropped-append s (x ∷ []) ∙ ap (λ (l : List ℕ). droppedMarks s ++ l) (dropped-other x [] e ∙ nil-dropped) ∙ append-nil (droppedMarks s)
 
 -- what lies below 0300 is no tone mark
-low-no-mark : (x : ℕ) → x < 0x0300 → isToneMark x ≡ false
+pub low-no-mark : (x : ℕ) → x < 0x0300 → isToneMark x ≡ false
 low-no-mark x h =
     let differs : (m : ℕ) → 0x0300 ≤ m → x ≡ m → ⊥ = λ m k e. omega arith in
     mark-is x ∙ ap isTone (sym (no-mark x (differs 0x0301 (omega arith), (differs 0x0300 (omega arith), (differs 0x0302 (omega arith), (differs 0x0303 (omega arith), (differs 0x0304 (omega arith), (differs 0x030D (omega arith), (differs 0x0306 (omega arith), tt)))))))))

@@ -77,7 +77,15 @@ listed-pair xs y x h k l u = by-first (ℕ-discrete x y)
     by-first (yes e) = listed-is xs y x h e
     by-first (no n) = let e : x ≡ y + 1 = omega arith in listed-is xs (y + 1) x k e
 
-listed-one : (y x : ℕ) → listed (y ∷ []) x ≡ eqb y x
+-- three
+pub listed-three : (xs : List ℕ) (y x : ℕ) → listed xs y ≡ true → listed xs (y + 1) ≡ true → listed xs (y + 2) ≡ true → y ≤ x → x < y + 3 → true ≡ listed xs x
+listed-three xs y x h k m l u = by-last (decLe (y + 2) x)
+  where
+    by-last : Dec (y + 2 ≤ x) → true ≡ listed xs x
+    by-last (yes g) = let e : x ≡ y + 2 = omega arith in listed-is xs (y + 2) x m e
+    by-last (no g) = listed-pair xs y x h k l (omega arith)
+
+pub listed-one : (y x : ℕ) → listed (y ∷ []) x ≡ eqb y x
 unfolding listed
 listed-one y x = or-false (eqb y x)
   where

@@ -15,9 +15,9 @@ use Rattle.ji.specs.Nfd.{nfd}
 use Rattle.ji.specs.Lomaji.Strip.{toneMarks, markIn, isToneMark, withoutMarks, stripped, strip}
 use Rattle.ji.specs.Lomaji.ToneLetter.{patterns, matches, pickPlace, further, orElse, firstPlace, searched, toneLetter, isSome, hasToneLetter}
 use Rattle.ji.specs.declared.tone.Tone.{Tone}
-use Rattle.ji.proofs.Bools.{either, false-true, and-left, and-no, and-yes, or-yes, or-no, number-no, within-above}
+use Rattle.ji.proofs.Bools.{either, false-true, and-true, and-left, and-no, and-yes, or-yes, or-no, number-no, within-above}
 use Rattle.ji.proofs.lomaji.strip.Commuting.{without-mark, without-other}
-use Rattle.ji.proofs.lomaji.tone_letter.Laws.{listed-none}
+use Rattle.ji.proofs.lomaji.tone_letter.Laws.{listed-none, listed-one}
 
 -- ── marks are no letters
 abbrev High : List (ℕ × Tone) → Type 0
@@ -121,6 +121,39 @@ letter-single s =
     ∙ absorbed (isSome (firstPlace ("o" ∷ "ae" ∷ "ptkhmni" ∷ []) s)) (Found "o" s) _ (begins-found "o" ("ae" ∷ "ptkhmni" ∷ []) s)
     ∙ ap (λ (b : Bool). Found "o" s || (Found "a" s || (Found "e" s || (Found "u" s || (Found "i" s || b)))))
     (absorbed (isSome (firstPlace ("n" ∷ "g" ∷ []) s)) (Found "n" s) _ (begins-found "n" ("g" ∷ []) s))
+
+-- so that one letter after the other can be looked at
+or-or : (a b c d : Bool) → ((a || b) || (c || d)) ≡ ((a || c) || (b || d))
+or-or true b c d = refl
+or-or false true true d = refl
+or-or false true false d = refl
+or-or false false c d = refl
+
+abbrev matchesAny : List (List String × ℕ) → List ℕ → Bool
+matchesAny [] s = false
+matchesAny (p ∷ ps) s = matches (p .0) s || matchesAny ps s
+
+anywhere-step : (ps : List (List String × ℕ)) (x : ℕ) (s : List ℕ) → anywhere ps (x ∷ s) ≡ (matchesAny ps (x ∷ s) || anywhere ps s)
+anywhere-step [] x s = refl
+anywhere-step (p ∷ ps) x s =
+    ap₂ (λ (a b : Bool). a || b) (place-some (p .0) x s) (anywhere-step ps x s)
+    ∙ or-or (matches (p .0) (x ∷ s)) (isSome (firstPlace (p .0) s)) (matchesAny ps (x ∷ s)) (anywhere ps s)
+
+single-letter : (x : ℕ) (s : List ℕ) → matchesAny single (x ∷ s) ≡ listed (points "oaeuinm") (lower x)
+unfolding listed
+single-letter x s =
+    let one : (y : ℕ) → (listed (y ∷ []) (lower x) && true) ≡ eqb y (lower x) = λ y. and-true _ ∙ listed-one y (lower x) in
+    simp (one 111, one 97, one 101, one 117, one 105, one 110, one 109)
+
+pub letter-more : (x : ℕ) (s : List ℕ) → isSome (toneLetter (x ∷ s)) ≡ (listed (points "oaeuinm") (lower x) || isSome (toneLetter s))
+letter-more x s =
+    letter-single (x ∷ s)
+    ∙ anywhere-step single x s
+    ∙ ap₂ (λ (a b : Bool). a || b) (single-letter x s) (sym (letter-single s))
+
+pub letter-nil : isSome (toneLetter []) ≡ false
+unfolding toneLetter searched firstPlace
+letter-nil = refl
 
 abbrev Singles : List (List String × ℕ) → Type 0
 Singles [] = Unit {0}

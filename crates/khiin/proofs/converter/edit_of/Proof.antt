@@ -10,41 +10,44 @@ repeats-tone-requires c κs = search needs
 
 returns : tie.Need-returns
 returns c =
-    let a = c .before .before .before .before .args in
+    let a = c .before .before .before .args in
     λ given e. edit-behind (a .k) (a .key) (a .tone) given (sym (c .before .repeats-tone .ensures) ∙ c .if1 .taken)
 
 lower-requires : tie.Need-lower-requires
 lower-requires c κs = search needs
 
-edit-in-requires : tie.Need-edit-in-requires
-edit-in-requires c κs = search needs
+edit-at-requires : tie.Need-edit-at-requires
+edit-at-requires c κs = search needs
 
 returns-2 : tie.Need-returns-2
 returns-2 c =
-    let a = c .before .before .before .before .before .before .before .args in
-    let l = c .before .before .lower .ensures in
+    let w = c .before .before in
+    let r = w .before .before in
+    let a = r .before .before .args in
+    let l = w .lower .ensures in
     let k = c .if2 .taken in
     λ given e.
     sym (edit-other (a .key) given (λ f. omega (arith, l, k, f)) (λ f. omega (arith, l, k, f)) (λ f. omega (arith, l, k, f)))
-    ∙ edit-else (a .k) (a .key) (a .tone) given (sym (c .before .before .before .before .repeats-tone .ensures) ∙ c .before .before .before .if1 .left)
+    ∙ edit-else (a .k) (a .key) (a .tone) given (sym (r .repeats-tone .ensures) ∙ w .before .if1 .left)
 
 returns-3 : tie.Need-returns-3
 returns-3 c =
-    let a = c .before .before .before .before .before .before .before .before .args in
-    let l = c .before .before .before .lower .ensures in
+    let w = c .before .before .before in
+    let r = w .before .before in
+    let a = r .before .before .args in
+    let l = w .lower .ensures in
     let k = c .if3 .left in
     let u = c .before .before .match .rest .1 in
     λ given e.
     sym (edit-other (a .key) given (λ f. omega (arith, l, k, f)) (λ f. u (l ∙ f)) (λ f. omega (arith, l, k, f)))
-    ∙ edit-else (a .k) (a .key) (a .tone) given (sym (c .before .before .before .before .before .repeats-tone .ensures) ∙ c .before .before .before .before .if1 .left)
-
-same-length : tie.Need-same-length
-same-length c = search needs
+    ∙ edit-else (a .k) (a .key) (a .tone) given (sym (r .repeats-tone .ensures) ∙ w .before .if1 .left)
 
 returns-4 : tie.Need-returns-4
 returns-4 c =
-    let a = c .before .before .before .before .before .before .before .before .before .before .args in
-    λ given e. c .before .before .edit-in .ensures given e ∙ edit-else (a .k) (a .key) (a .tone) given (sym (c .before .before .before .before .before .before .before .repeats-tone .ensures) ∙ c .before .before .before .before .before .before .if1 .left)
+    let w = c .before .before in
+    let r = w .before .before in
+    let a = r .before .before .args in
+    λ given e. c .edit-at .ensures given e ∙ edit-else (a .k) (a .key) (a .tone) given (sym (r .repeats-tone .ensures) ∙ w .before .if1 .left)
 
 pub edit-of-spec : {M : Type 1} → statement M
 edit-of-spec =
@@ -53,8 +56,7 @@ edit-of-spec =
     repeats-tone-requires
     returns
     lower-requires
-    edit-in-requires
+    edit-at-requires
     returns-2
     returns-3
-    same-length
     returns-4)

@@ -1,8 +1,7 @@
-use mathlib.Core.Path.{ap, _∙_}
+use mathlib.Core.Path.{_≡_, ap, _∙_}
 use mathlib.Core.List.{List}
-use Prim.Native.Nat.{ℕ, _-_}
+use Prim.Native.Nat.{ℕ}
 use lib.ListN.{length-set}
-use Rattle.ji.specs.Utf8.{encode}
 use Rattle.ji.specs.Reply.{placed}
 use Rattle.khiin.proofs.converter.Laws.{stored-key}
 use borrow.Author.Needs.{needs}
@@ -10,49 +9,46 @@ use native.Mathlib.Omega.{arith}
 use Rattle.khiin.proofs.converter.place_key.Statement.{statement}
 use Rattle.khiin.proofs.converter.place_key.Tie as tie
 
-mul-points : tie.Need-mul-points
-mul-points c = search needs
-
-slice-write-points : tie.Need-slice-write-points
-slice-write-points c = search needs
+slice-write-bytes : tie.Need-slice-write-bytes
+slice-write-bytes c = search needs
 
 add-n : tie.Need-add-n
 add-n c = search needs
 
-sub-place : tie.Need-sub-place
-sub-place c = search needs
+sub-place-bytes : tie.Need-sub-place-bytes
+sub-place-bytes c = search needs
 
-part-place-start : tie.Need-part-place-start
-part-place-start c = search needs
+part-place-bytes-start : tie.Need-part-place-bytes-start
+part-place-bytes-start c = search needs
 
-part-place-end : tie.Need-part-place-end
-part-place-end c = let a = c .before .before .before .args in omega (arith, length-set (a .points .now) (a .at) (a .key), c .before .before .before .pre)
+part-place-bytes-end : tie.Need-part-place-bytes-end
+part-place-bytes-end c = let a = c .before .before .before in omega (arith, a .pre, length-set (a .args .bytes .now) (a .args .at) (a .args .key))
 
-place-requires : tie.Need-place-requires
-place-requires c κs = search needs
+place-bytes-requires : tie.Need-place-bytes-requires
+place-bytes-requires c κs = search needs
 
 same-length : tie.Need-same-length
-same-length c = search needs
+same-length c = let a = c .before .before .before .before .before .before .before .before in length-set (a .args .bytes .now) (a .args .at) (a .args .key)
 
 same-length-2 : tie.Need-same-length-2
 same-length-2 c = search needs
 
 returns : tie.Need-returns
 returns c =
-    let a = c .before .before .before .before .before .before .before .before .args in
-    c .before .before .place .ensures ∙ ap (λ (s : List ℕ). placed 0 (encode s) (a .out .now)) (stored-key (a .points .now) (a .at) (a .key) (c .before .before .before .before .before .before .before .before .pre))
+    let p = c .before .before in
+    let a = p .before .before .before .before .before .before in
+    p .place-bytes .ensures ∙ ap (λ (l : List ℕ). placed 0 l (a .args .out .now)) (stored-key (a .args .bytes .now) (a .args .at) (a .args .key) (a .pre))
 
 pub place-key-spec : {M : Type 1} → statement M
 place-key-spec =
     tie.close
     (tie.spec
-    mul-points
-    slice-write-points
+    slice-write-bytes
     add-n
-    sub-place
-    part-place-start
-    part-place-end
-    place-requires
+    sub-place-bytes
+    part-place-bytes-start
+    part-place-bytes-end
+    place-bytes-requires
     same-length
     same-length-2
     returns)

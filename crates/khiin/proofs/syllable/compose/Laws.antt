@@ -11,19 +11,20 @@ use borrow.Author.Tests.{eq-eqb, ne-eqb, eqb-true, eqb-false, ltb-true, lt-ltb}
 use lib.Dec.{ltb, eqb}
 use lib.ListN.{length, take, drop, getD, set, length-append, length-take, length-drop, drop-of-length-le, List·getD-append}
 use lib.Seq.{length-take-le, take-length, take-suc, drop-cons, append-snoc, split-at, take-append-le, take-append-add, take-take, take-add, getD-take, getD-drop, drop-drop, drop-at, set-at}
-use Rattle.ji.specs.Unicode.{Table, pickText, listed}
+use Rattle.ji.specs.Unicode.{unicode16, pickText, listed}
 use Rattle.ji.specs.Text.{points, marked, point, lower, begins, replaceFrom, replaceAll, last}
 use Rattle.ji.specs.Utf8.{encode}
 use Rattle.ji.specs.Written.{Written}
 use Rattle.ji.specs.Lomaji.Keys.{respell}
-use Rattle.ji.specs.Lomaji.ToneLetter.{toneLetter}
+use Rattle.ji.specs.declared.tone.Tone.{Tone}
+use Rattle.ji.specs.declared.lomaji.khin.Khin.{Khin}
 use Rattle.ji.proofs.Cases.{none-not-some}
 use Rattle.ji.proofs.Bools.{either, false-true, and-yes, and-no, and-true, and-false, and-left, and-right, or-yes, or-no, text-yes, text-no}
 use Rattle.ji.proofs.Writing.{written-length, written-take, written-drop, stores-2}
 use Rattle.ji.proofs.Underway.{Underway, underway-start, underway-one, underway-run, underway-end}
 use Rattle.ji.proofs.text.Laws.{drop-next, begins-short, begins-split, replace-nil, replace-hit, replace-miss, replace-point, replace-other, replace-growth, replace-induction}
-use Rattle.khiin.specs.Syllable.{vowelRules, nasalRules, oRules, isNasalEnd, endsNasal, nasalised, moved, spelled, composedAt, composedWith}
-use Rattle.khiin.specs.Compose.{Front, isPair, beginsAny, takesDot, inserted, composedTextAt, composedText}
+use Rattle.khiin.specs.Syllable.{nasalRules, oRules, isNasalEnd, endsNasal, nasalised, moved, spelled, khinText, markOf, composedWith, compose}
+use Rattle.khiin.specs.Compose.{Front, isPair, beginsAny, takesDot, settledBody, inserted}
 
 getD-start : (s : List ℕ) (i : ℕ) → getD (drop i s) 0 0 ≡ getD s i 0
 getD-start s i = let z : i + 0 ≡ i = omega arith in getD-drop i s 0 0 ∙ ap (λ (k : ℕ). getD s k 0) z
@@ -97,127 +98,9 @@ underway-two {F} {s} {before} {after} {i} {j} h i′ x y piece inside room =
     let two : j + 1 + 1 ≡ j + 2 = omega arith in
     rw (two, stores-2 after j x y (rw (written-length (h .written)) room)) (underway-run h i′ (x ∷ y ∷ []) piece inside room)
 
--- ── texts that no rule touches
--- no code point is a sign or stands above the signs
-unfoldable low : List ℕ → Bool
-low [] = true
-low (x ∷ s) = ltb x 0x1D3A && low s
-
--- and no two are a pair of vowels
-unfoldable pub plain : List ℕ → Bool
-plain [] = true
-plain (x ∷ s) = (ltb x 0x1D3A && not (isPair (x ∷ s))) && plain s
-
-pub plain-step : (s : List ℕ) (i : ℕ) → i < length s → getD s i 0 < 0x1D3A → isPair (drop i s) ≡ false → plain (drop i s) ≡ plain (drop (i + 1) s)
-unfolding plain
-plain-step s i h l e =
-    let here = drop-next s i h in
-    let alone = ap isPair (sym here) ∙ e in
-    ap plain here
-    ∙ and-yes _ _ (and-yes _ _ (lt-ltb _ _ l) ∙ ap not alone)
-
-pub plain-end : (s : List ℕ) (i : ℕ) → length s ≤ i → plain (drop i s) ≡ true
-unfolding plain
-plain-end s i h = ap plain (drop-of-length-le s h)
-
-plain-low : (s : List ℕ) → plain s ≡ true → low s ≡ true
-unfolding low plain
-plain-low [] e = refl
-plain-low (x ∷ s) e =
-    and-yes _ _ (and-left (ltb x 0x1D3A) (not (isPair (x ∷ s))) (and-left (ltb x 0x1D3A && not (isPair (x ∷ s))) (plain s) e))
-    ∙ plain-low s (and-right (ltb x 0x1D3A && not (isPair (x ∷ s))) (plain s) e)
-
--- a pattern that a plain text does not begin with
-abbrev Absent : List ℕ → Type 0
-Absent p = (x : ℕ) (s : List ℕ) → plain (x ∷ s) ≡ true → begins p (x ∷ s) ≡ false
-
--- the tests of a pattern that tell so: two vowels, or a sign in it
-unfoldable twoVowels : List ℕ → Bool
-twoVowels [] = false
-twoVowels (a ∷ []) = false
-twoVowels (a ∷ b ∷ []) = listed (points "oOeE") a && listed (points "oOuU") b
-twoVowels (a ∷ b ∷ (c ∷ p)) = false
-
 not-true : (b : Bool) → not b ≡ true → b ≡ true → ⊥
 not-true true e f = false-true e
 not-true false e f = false-true f
-
-begins-two : (a b x : ℕ) (s : List ℕ) → begins (a ∷ b ∷ []) (x ∷ s) ≡ true → (x ≡ a) × (getD s 0 0 ≡ b)
-unfolding begins
-begins-two a b x [] e = absurd (false-true (sym (and-false (eqb x a)) ∙ e))
-begins-two a b x (y ∷ s) e =
-    (eqb-true x a (and-left (eqb x a) (eqb y b && true) e), eqb-true y b (and-left (eqb y b) true (and-right (eqb x a) (eqb y b && true) e)))
-
-vowels-absent : (p : List ℕ) → twoVowels p ≡ true → Absent p
-unfolding twoVowels plain isPair
-vowels-absent [] t x s e = absurd (false-true t)
-vowels-absent (a ∷ []) t x s e = absurd (false-true t)
-vowels-absent (a ∷ b ∷ []) t x s e =
-    either (begins (a ∷ b ∷ []) (x ∷ s))
-    (λ y.
-    let two = begins-two a b x s y in
-    let pair : isPair (x ∷ s) ≡ true = rw (two .0, two .1) t in
-    absurd (not-true (isPair (x ∷ s)) (and-right (ltb x 0x1D3A) (not (isPair (x ∷ s))) (and-left (ltb x 0x1D3A && not (isPair (x ∷ s))) (plain s) e)) pair))
-    (λ n. n)
-vowels-absent (a ∷ b ∷ (c ∷ p)) t x s e = absurd (false-true t)
-
-begins-low : (p s : List ℕ) → low s ≡ true → begins p s ≡ true → low p ≡ true
-unfolding begins low
-begins-low [] s l e = refl
-begins-low (a ∷ p) [] l e = absurd (false-true e)
-begins-low (a ∷ p) (x ∷ s) l e =
-    let same = eqb-true x a (and-left (eqb x a) (begins p s) e) in
-    and-yes (ltb a 0x1D3A) (low p) (rw (← same) (and-left (ltb x 0x1D3A) (low s) l))
-    ∙ begins-low p s (and-right (ltb x 0x1D3A) (low s) l) (and-right (eqb x a) (begins p s) e)
-
-sign-absent : (p : List ℕ) → not (low p) ≡ true → Absent p
-sign-absent p t x s e =
-    either (begins p (x ∷ s)) (λ y. absurd (not-true (low p) t (begins-low p (x ∷ s) (plain-low (x ∷ s) e) y))) (λ n. n)
-
-plain-rest : (x : ℕ) (s : List ℕ) → plain (x ∷ s) ≡ true → plain s ≡ true
-unfolding plain
-plain-rest x s e = and-right (ltb x 0x1D3A && not (isPair (x ∷ s))) (plain s) e
-
-absent-stays : (p r : List ℕ) → Absent p → (s : List ℕ) → plain s ≡ true → replaceAll p r s ≡ s
-absent-stays p r h [] e = replace-nil p r
-absent-stays p r h (x ∷ s) e = replace-miss p r x s (h x s e) ∙ ap (λ (t : List ℕ). x ∷ t) (absent-stays p r h s (plain-rest x s e))
-
--- the patterns of some rules pass a test
-unfoldable each : (List ℕ → Bool) → List (List ℕ × List ℕ) → Bool
-each test [] = true
-each test (r ∷ rs) = test (r .0) && each test rs
-
-respell-stays : (test : List ℕ → Bool) → ((p : List ℕ) → test p ≡ true → Absent p) → (rules : List (List ℕ × List ℕ)) → each test rules ≡ true → (s : List ℕ) → plain s ≡ true → respell rules s ≡ s
-unfolding each
-respell-stays test absent [] h s e = refl
-respell-stays test absent (r ∷ rs) h s e =
-    ap (respell rs) (absent-stays (r .0) (r .1) (absent (r .0) (and-left (test (r .0)) (each test rs) h)) s e)
-    ∙ respell-stays test absent rs (and-right (test (r .0)) (each test rs) h) s e
-
-vowels-stay : (s : List ℕ) → plain s ≡ true → respell vowelRules s ≡ s
-unfolding each twoVowels listed
-vowels-stay s e = respell-stays twoVowels vowels-absent vowelRules refl s e
-
-signs-stay : (s : List ℕ) → plain s ≡ true → respell oRules s ≡ s
-unfolding each low
-signs-stay s e = respell-stays (λ p. not (low p)) sign-absent oRules refl s e
-
-low-listed : (s : List ℕ) (c : ℕ) → 0x1D3A ≤ c → low s ≡ true → listed s c ≡ false
-unfolding low listed
-low-listed [] c h e = refl
-low-listed (x ∷ s) c h e =
-    let l : x < 0x1D3A = ltb-true x 0x1D3A (and-left (ltb x 0x1D3A) (low s) e) in
-    or-no _ _ (ne-eqb x c (λ z. omega arith)) ∙ low-listed s c h (and-right (ltb x 0x1D3A) (low s) e)
-
-sign-stays : (s : List ℕ) (c : ℕ) → 0x1D3A ≤ c → plain s ≡ true → moved c s ≡ s
-unfolding moved
-sign-stays s c h e = text-no (listed s c) _ s (low-listed s c h (plain-low s e))
-
-pub spelled-plain : (s : List ℕ) → plain s ≡ true → endsNasal s ≡ false → spelled s ≡ s
-unfolding spelled nasalised
-spelled-plain s e n =
-    rw (vowels-stay s e, text-no (endsNasal s) _ s n, sign-stays s (point "ⁿ") (omega arith) e, sign-stays s (point "ᴺ") (omega arith) e)
-    (signs-stay s e)
 
 -- ── what the code reads of a text
 pair-read : (s : List ℕ) → isPair s ≡ (listed (points "oOeE") (getD s 0 0) && listed (points "oOuU") (getD s 1 0))
@@ -253,7 +136,7 @@ module _ (s : List ℕ) (h : 3 ≤ length s) where
   abbrev letter : ℕ → ℕ
   letter back = lower (getD s (length s - back) 0)
 
-  nasal-read : endsNasal s ≡ (listed (marked "aeiouptkhm" 0x0358) (letter 3) && eqb (letter 2) (point "n") && eqb (letter 1) (point "n"))
+  pub nasal-read : endsNasal s ≡ (listed (marked "aeiouptkhm" 0x0358) (letter 3) && eqb (letter 2) (point "n") && eqb (letter 1) (point "n"))
   unfolding endsNasal isNasalEnd
   nasal-read = ap isNasalEnd last-three
 
@@ -623,20 +506,8 @@ pub nasalised-no : (s : List ℕ) → endsNasal s ≡ false → nasalised s ≡ 
 unfolding nasalised
 nasalised-no s e = text-no (endsNasal s) _ _ e
 
-module _ (t : Table) (rawInput s : List ℕ) where
-  letter-raw : (mark : List ℕ) (o : Option ℕ) → composedTextAt t s mark o ≡ none → composedAt t rawInput s mark o ≡ rawInput
-  letter-raw mark none e = refl
-  letter-raw mark (some k) e = absurd (none-not-some e refl)
-
-  letter-text : (mark : List ℕ) (o : Option ℕ) (u : List ℕ) → composedTextAt t s mark o ≡ some u → composedAt t rawInput s mark o ≡ u
-  letter-text mark none u e = absurd (none-not-some refl e)
-  letter-text mark (some k) u e = Option·some-injective _ u e
-
-  -- where there is no composed text the answer is the raw input
-  pub composed-raw : (mark : List ℕ) → composedText t s mark ≡ none → composedWith t rawInput s mark ≡ rawInput
-  composed-raw [] e = absurd (none-not-some e refl)
-  composed-raw (m ∷ ms) e = letter-raw (m ∷ ms) (toneLetter s) e
-
-  pub composed-text : (mark u : List ℕ) → composedText t s mark ≡ some u → composedWith t rawInput s mark ≡ u
-  composed-text [] u e = Option·some-injective _ u e
-  composed-text (m ∷ ms) u e = letter-text (m ∷ ms) (toneLetter s) u e
+-- what the O rules and khin make of a settled body is what compose marks
+pub composed-is : (rawInput body s : List ℕ) (tone : Tone) (khin : Khin) → settledBody body ≡ s
+    → composedWith unicode16 rawInput (khinText khin ++ respell oRules s) (markOf tone) ≡ compose unicode16 rawInput body tone khin
+unfolding compose spelled settledBody
+composed-is rawInput body s tone khin e = ap (λ (u : List ℕ). composedWith unicode16 rawInput (khinText khin ++ respell oRules u) (markOf tone)) (sym e)

@@ -20,7 +20,7 @@ use Rattle.ji.proofs.unicode.Bytes.{encode-cons, bytes-some}
 use Rattle.ji.proofs.unicode.Checked.{check-passed}
 
 -- a text has no more code points than bytes
-fewer : (s : List ℕ) → length s ≤ length (encode s)
+pub fewer : (s : List ℕ) → length s ≤ length (encode s)
 fewer [] = omega arith
 fewer (x ∷ s) = omega (arith, ap length (encode-cons x s), length-append (bytesOf x) (encode s), bytes-some x, fewer s)
 

@@ -4,6 +4,7 @@ use lib.ListN.{getD}
 use Rattle.ji.specs.Text.{point}
 use Rattle.ji.proofs.lomaji.tone_letter.Laws.{pattern, ninth}
 use borrow.Author.Needs.{needs}
+use native.Mathlib.Omega.{arith}
 use Rattle.ji.proofs.lomaji.tone_letter.first_of.Statement.{statement}
 use Rattle.ji.proofs.lomaji.tone_letter.first_of.Tie as tie
 
@@ -36,7 +37,7 @@ returns-9 c =
     let r = c .match .rest in
     let q = r .0 .0 .0 .0 in
     let e = ninth (c .before .args .k) (c .before .pre) (q .0 .0 .0 .1) (q .0 .0 .1) (q .0 .1) (q .1) (r .0 .0 .0 .1) (r .0 .0 .1) (r .0 .1) (r .1) in
-    sym (ap (λ (k : ℕ). point (getD (pattern k .0) 0 "")) e)
+    (sym (ap (λ (k : ℕ). point (getD (pattern k .0) 0 "")) e), omega arith, omega arith)
 
 pub first-of-spec : {M : Type 1} → statement M
 first-of-spec =

@@ -11,10 +11,10 @@ use Rattle.ji.proofs.lomaji.tone_letter.tone_position.Statement.{statem
 use Rattle.ji.proofs.lomaji.tone_letter.tone_position.Tie as tie
 
 abbrev Inv-loop : tie.InvT-loop
-Inv-loop s place₀ k at₀ place at = (place ≡ Nowhere) × (firstPlace (pattern k .0) s ≡ further at (firstPlace (pattern k .0) (drop at s)))
+Inv-loop s place₀ k first at₀ place at = (place ≡ Nowhere) × (firstPlace (pattern k .0) s ≡ further at (firstPlace (pattern k .0) (drop at s)))
 
 abbrev μ-loop : tie.MeasureT-loop
-μ-loop s place₀ k at₀ place at = length s - at
+μ-loop s place₀ k first at₀ place at = length s - at
 
 abbrev Inv-patterns : tie.InvT-patterns
 Inv-patterns s place₀ k₀ place k = (place ≡ Nowhere) × (toneLetter s ≡ searched (drop k patterns) s)
@@ -25,8 +25,11 @@ abbrev μ-patterns : tie.MeasureT-patterns
 patterns-holds : tie.Need-patterns-holds Inv-loop μ-loop Inv-patterns μ-patterns
 patterns-holds c = (refl, search-start (c .before .args .s .now))
 
+first-of-requires : tie.Need-first-of-requires Inv-loop μ-loop Inv-patterns μ-patterns
+first-of-requires c κs = search needs
+
 loop-holds : tie.Need-loop-holds Inv-loop μ-loop Inv-patterns μ-patterns
-loop-holds c = let o = c .before in (o .patterns .inv .0, place-start (pattern (o .patterns .k) .0) (o .before .before .args .s .now))
+loop-holds c = let o = c .before .before in (o .patterns .inv .0, place-start (pattern (o .patterns .k) .0) (o .before .before .args .s .now))
 
 stands-at-requires : tie.Need-stands-at-requires Inv-loop μ-loop Inv-patterns μ-patterns
 stands-at-requires c κs = search needs
@@ -34,8 +37,8 @@ stands-at-requires c κs = search needs
 letter-of-requires : tie.Need-letter-of-requires Inv-loop μ-loop Inv-patterns μ-patterns
 letter-of-requires c κs = search needs
 
-add-t10 : tie.Need-add-t10 Inv-loop μ-loop Inv-patterns μ-patterns
-add-t10 c = search needs
+add-t11 : tie.Need-add-t11 Inv-loop μ-loop Inv-patterns μ-patterns
+add-t11 c = search needs
 
 add-at : tie.Need-add-at Inv-loop μ-loop Inv-patterns μ-patterns
 add-at c = search needs
@@ -46,7 +49,7 @@ loop-less c = search needs
 loop-again : tie.Need-loop-again Inv-loop μ-loop Inv-patterns μ-patterns
 loop-again c =
     let l = c .before .before .before in
-    let o = l .before .before in (
+    let o = l .before .before .before in (
       l .loop .inv .0,
       l .loop .inv .1
           ∙ place-later (pattern (o .patterns .k) .0) (o .before .before .args .s .now) (l .loop .at) (c .before .before .loop-test .taken) (sym (c .before .stands-at .ensures) ∙ c .if1 .left),
@@ -61,12 +64,12 @@ patterns-less c = search needs
 patterns-again : tie.Need-patterns-again Inv-loop μ-loop Inv-patterns μ-patterns
 patterns-again c =
     let l = c .before in
-    let o = l .before .before in
+    let o = l .before .before .before in
     let k = o .patterns .k in
     let s = o .before .before .args .s .now in (
       l .loop .inv .0,
       o .patterns .inv .1
-          ∙ search-next s k (l .before .patterns-test .taken) (l .loop .inv .1 ∙ place-end (pattern k .0) s (l .loop .at) (c .loop-test .left)),
+          ∙ search-next s k (l .before .before .patterns-test .taken) (l .loop .inv .1 ∙ place-end (pattern k .0) s (l .loop .at) (c .loop-test .left)),
     )
 
 returns : tie.Need-returns Inv-loop μ-loop Inv-patterns μ-patterns
@@ -78,13 +81,13 @@ returns-2 : tie.Need-returns-2 Inv-loop μ-loop Inv-patterns μ-patterns
 returns-2 c =
     let t = c .before in
     let l = t .before .before .before in
-    let o = l .before .before in
+    let o = l .before .before .before in
     let k = o .patterns .k in
     let s = o .before .before .args .s .now in
     let at = l .loop .at in
     let here = l .loop .inv .1 ∙ place-here (pattern k .0) s at (t .before .before .loop-test .taken) (sym (t .before .stands-at .ensures) ∙ t .if1 .taken) in
     let e : at + c .letter-of .result ≡ pattern k .1 + at = omega (arith, c .letter-of .ensures .0) in
-    ap some e ∙ sym (o .patterns .inv .1 ∙ search-here s k at (l .before .patterns-test .taken) here)
+    ap some e ∙ sym (o .patterns .inv .1 ∙ search-here s k at (l .before .before .patterns-test .taken) here)
 
 pub tone-position-spec : {M : Type 1} → statement M
 tone-position-spec =
@@ -95,10 +98,11 @@ tone-position-spec =
     Inv-patterns
     μ-patterns
     patterns-holds
+    first-of-requires
     loop-holds
     stands-at-requires
     letter-of-requires
-    add-t10
+    add-t11
     add-at
     loop-less
     loop-again

@@ -32,71 +32,62 @@ called raw body tone khin buffer s e h =
     h s (sym (check-passed unicode16 256 raw s e .written))
     ∙ sym (ap (λ (k : Checked). composeOf unicode16 tone khin k (checkText unicode16 body) buffer) e)
 
--- src/syllable/compose.rt:537:11
 check-requires : tie.Need-check-requires
 check-requires c κs = search needs
 
--- src/syllable/compose.rt:538:26
 enum-known-why : tie.Need-enum-known-why
 enum-known-why c = search needs
 
--- src/syllable/compose.rt:540:16
 enum-told : tie.Need-enum-told
 enum-told c = search needs
 
--- src/syllable/compose.rt:541:17
 compose-short-requires : tie.Need-compose-short-requires
 compose-short-requires c κs = search needs
 
--- src/syllable/compose.rt:541:17
 same-length : tie.Need-same-length
 same-length c = search needs
 
--- src/syllable/compose.rt:541:17
 returns : tie.Need-returns
 returns c =
-    let a = c .before .before .before .before .before .before .before .before .before .before .before .args in
-    let g = found-good (checkWithin unicode16 256 (a .raw .now)) (sym (c .before .before .before .before .before .enum-told .given .1) ∙ c .before .before .before .before .before .before .before .check .ensures) in
-    called (a .raw .now) (a .body .now) (a .tone) (a .khin) (a .out .now) (g .0) (g .1) (c .before .before .compose-short .ensures)
+    let s = c .before .before in
+    let t = s .before .before .before in
+    let k = t .before .before in
+    let a = k .before .before .before .before .args in
+    let g = found-good (checkWithin unicode16 256 (a .raw .now)) (sym (t .enum-told .given .1) ∙ k .check .ensures) in
+    called (a .raw .now) (a .body .now) (a .tone) (a .khin) (a .out .now) (g .0) (g .1) (s .compose-short .ensures)
 
--- src/syllable/compose.rt:544:17
 returns-2 : tie.Need-returns-2
 returns-2 c =
-    let a = c .before .before .before .before .before .before .before .before .args in
-    let g = found-good (checkWithin unicode16 256 (a .raw .now)) (sym (c .before .before .enum-told .given .1) ∙ c .before .before .before .before .check .ensures) in
+    let t = c .before .before in
+    let k = t .before .before in
+    let a = k .before .before .before .before .args in
+    let g = found-good (checkWithin unicode16 256 (a .raw .now)) (sym (t .enum-told .given .1) ∙ k .check .ensures) in
     called (a .raw .now) (a .body .now) (a .tone) (a .khin) (a .out .now) (g .0) (g .1)
     (λ rawInput e. sym (ap (λ (k : Checked). composeOf unicode16 (a .tone) (a .khin) (good rawInput) k (a .out .now)) (check-long unicode16 (a .body .now) (c .if2 .taken))))
 
--- src/syllable/compose.rt:548:49
-slice-aggregate-compose-body : tie.Need-slice-aggregate-compose-body
-slice-aggregate-compose-body c = search needs
+compose-long-requires : tie.Need-compose-long-requires
+compose-long-requires c κs = search needs
 
--- src/syllable/compose.rt:548:57
-slice-aggregate-compose-body-2 : tie.Need-slice-aggregate-compose-body-2
-slice-aggregate-compose-body-2 c = search needs
-
--- src/syllable/compose.rt:548:13
-compose-body-requires : tie.Need-compose-body-requires
-compose-body-requires c κs = search needs
-
--- src/syllable/compose.rt:534:1
 returns-3 : tie.Need-returns-3
 unfolding composeCall checkText
 returns-3 c =
-    let a = c .before .before .before .before .before .before .before .args in
-    let g = found-bad (checkWithin unicode16 256 (a .raw .now)) (sym (c .before .why .given .1) ∙ c .before .before .before .check .ensures) in
+    let w = c .before in
+    let k = w .before .before in
+    let a = k .before .before .before .before .args in
+    let g = found-bad (checkWithin unicode16 256 (a .raw .now)) (sym (w .why .given .1) ∙ k .check .ensures) in
     sym (ap (λ (k : Checked). composeOf unicode16 (a .tone) (a .khin) k (checkText unicode16 (a .body .now)) (a .out .now)) g)
 
--- src/syllable/compose.rt:534:1
 same-length-2 : tie.Need-same-length-2
 same-length-2 c = search needs
 
--- src/syllable/compose.rt:534:1
 returns-4 : tie.Need-returns-4
 returns-4 c =
-    let a = c .before .before .before .before .before .before .before .before .before .before .before .before .before .before .before .before .args in
-    let g = found-good (checkWithin unicode16 256 (a .raw .now)) (sym (c .before .before .before .before .before .before .before .before .before .before .enum-told .given .1) ∙ c .before .before .before .before .before .before .before .before .before .before .before .before .check .ensures) in
-    called (a .raw .now) (a .body .now) (a .tone) (a .khin) (a .out .now) (g .0) (g .1) (c .before .before .before .before .compose-body .ensures)
+    let s = c .before .before in
+    let t = s .before .before .before .before in
+    let k = t .before .before in
+    let a = k .before .before .before .before .args in
+    let g = found-good (checkWithin unicode16 256 (a .raw .now)) (sym (t .enum-told .given .1) ∙ k .check .ensures) in
+    called (a .raw .now) (a .body .now) (a .tone) (a .khin) (a .out .now) (g .0) (g .1) (s .compose-long .ensures)
 
 pub compose-spec : {M : Type 1} → statement M
 compose-spec =
@@ -109,9 +100,7 @@ compose-spec =
     same-length
     returns
     returns-2
-    slice-aggregate-compose-body
-    slice-aggregate-compose-body-2
-    compose-body-requires
+    compose-long-requires
     returns-3
     same-length-2
     returns-4)

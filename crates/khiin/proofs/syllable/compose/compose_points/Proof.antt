@@ -1,85 +1,67 @@
-use mathlib.Core.Path.{_≡_, ap, _∙_}
-use mathlib.Core.List.{List}
-use Prim.Native.Nat.{ℕ, _+_, _≤_}
-use lib.ListN.{length, take}
-use lib.Seq.{paste, take-paste, take-length}
-use Rattle.ji.specs.Unicode.{unicode16}
-use Rattle.ji.specs.Utf8.{encode}
-use Rattle.ji.specs.Reply.{placed}
-use Rattle.khiin.specs.Syllable.{compose}
+use mathlib.Core.Path.{_≡_, sym, ap, _∙_, subst}
+use mathlib.Core.Bool.{true}
+use mathlib.Core.List.{List, _++_}
+use Prim.Native.Nat.{ℕ, _-_, _≤_}
+use native.Mathlib.Nat.{sub-zero}
+use lib.ListN.{length, take, length-append}
+use lib.Seq.{length-take-le}
+use Rattle.khiin.specs.Compose.{Front, NoSignBefore, SettledAs, settledBody}
+use Rattle.khiin.specs.declared.syllable.compose.Settled.{Settled}
+use Rattle.khiin.proofs.syllable.compose.Laws.{front-fits, front-longer}
 use borrow.Author.Needs.{needs}
 use native.Mathlib.Omega.{arith}
 use Rattle.khiin.proofs.syllable.compose.compose_points.Statement.{statement}
 use Rattle.khiin.proofs.syllable.compose.compose_points.Tie as tie
 
-put-there : (s before : List ℕ) {after : List ℕ} {n : ℕ} → n ≡ 0 + length s → after ≡ paste before 0 s (length s) → take n after ≡ s
-put-there s before e f = rw (e, f) (take-paste before 0 s (length s) (omega arith) (omega arith) ∙ take-length s)
+-- the settled text at the front of the whole buffer
+whole : (s : List ℕ) (n : ℕ) {part : List ℕ} {r : Settled} → SettledAs part (settledBody (take (n - 0) s)) r → (rest : List ℕ) → SettledAs (part ++ rest) (settledBody (take n s)) r
+whole s n {part} {r} h rest =
+    let g = subst (λ (m : ℕ). SettledAs part (settledBody (take m s)) r) (sub-zero n) h in
+    record { front = front-longer (g .front) rest; lone = g .lone }
 
-slice-aggregate-put : tie.Need-slice-aggregate-put
-slice-aggregate-put c = search needs
+sub-settle : tie.Need-sub-settle
+sub-settle c = search needs
 
-put-requires : tie.Need-put-requires
-put-requires c κs = search needs
+part-settle-start : tie.Need-part-settle-start
+part-settle-start c = search needs
 
-slice-aggregate-place-composed : tie.Need-slice-aggregate-place-composed
-slice-aggregate-place-composed c = search needs
+part-settle-end : tie.Need-part-settle-end
+part-settle-end c = search needs
 
-slice-aggregate-place-composed-2 : tie.Need-slice-aggregate-place-composed-2
-slice-aggregate-place-composed-2 c = search needs
+settle-requires : tie.Need-settle-requires
+settle-requires c κs = search needs
 
-place-composed-requires : tie.Need-place-composed-requires
-place-composed-requires c κs = search needs
+place-settled-requires : tie.Need-place-settled-requires
+place-settled-requires c κs =
+    let t = c .before .before .before .before in
+    let a = t .before .before .before .before .before in
+    let n = length-take-le (a .args .n - 0) (a .args .s .now) (omega (arith, a .pre .1)) in
+    let few = front-fits (t .settle .ensures .front) in
+    (omega (arith, few, t .settle .kept .0, n, a .pre .0), omega (arith, few, t .settle .kept .0, n, a .pre .1), λ e. let q = whole (a .args .s .now) (a .args .n) (t .settle .ensures) _ in subst NoSignBefore (sym (q .front .is)) (q .lone e))
 
 same-length : tie.Need-same-length
 same-length c = search needs
 
-returns : tie.Need-returns
-returns c =
-    λ rawInput e.
-    let a = c .before .before .before .before .before .before .before .before .before .before .before .before .before .before .before .args in
-    c .before .before .before .before .place-composed .ensures rawInput e
-    ∙ ap (λ (s : List ℕ). placed 0 (encode (compose unicode16 rawInput s (a .tone) (a .khin))) (a .out .now)) (put-there (a .body .now) _ (c .before .before .before .before .before .before .before .before .before .put .ensures .0) (c .before .before .before .before .before .before .before .before .before .put .ensures .1))
-
-slice-aggregate-put-2 : tie.Need-slice-aggregate-put-2
-slice-aggregate-put-2 c = search needs
-
-put-requires-2 : tie.Need-put-requires-2
-put-requires-2 c κs = search needs
-
-slice-aggregate-place-composed-3 : tie.Need-slice-aggregate-place-composed-3
-slice-aggregate-place-composed-3 c = search needs
-
-slice-aggregate-place-composed-4 : tie.Need-slice-aggregate-place-composed-4
-slice-aggregate-place-composed-4 c = search needs
-
-place-composed-requires-2 : tie.Need-place-composed-requires-2
-place-composed-requires-2 c κs = search needs
-
 same-length-2 : tie.Need-same-length-2
 same-length-2 c = search needs
 
-returns-2 : tie.Need-returns-2
-returns-2 c =
+returns : tie.Need-returns
+returns c =
     λ rawInput e.
-    let a = c .before .before .before .before .before .before .before .before .before .before .before .before .before .before .before .args in
-    c .before .before .before .before .place-composed2 .ensures rawInput e
-    ∙ ap (λ (s : List ℕ). placed 0 (encode (compose unicode16 rawInput s (a .tone) (a .khin))) (a .out .now)) (put-there (a .body .now) _ (c .before .before .before .before .before .before .before .before .before .put2 .ensures .0) (c .before .before .before .before .before .before .before .before .before .put2 .ensures .1))
+    let p = c .before .before .before .before in
+    let t = p .before .before .before .before .before in
+    let a = t .before .before .before .before .before in
+    p .place-settled .ensures rawInput (take (a .args .n) (a .args .s .now)) e (sym (whole (a .args .s .now) (a .args .n) (t .settle .ensures) _ .front .is))
 
 pub compose-points-spec : {M : Type 1} → statement M
 compose-points-spec =
     tie.close
     (tie.spec
-    slice-aggregate-put
-    put-requires
-    slice-aggregate-place-composed
-    slice-aggregate-place-composed-2
-    place-composed-requires
+    sub-settle
+    part-settle-start
+    part-settle-end
+    settle-requires
+    place-settled-requires
     same-length
-    returns
-    slice-aggregate-put-2
-    put-requires-2
-    slice-aggregate-place-composed-3
-    slice-aggregate-place-composed-4
-    place-composed-requires-2
     same-length-2
-    returns-2)
+    returns)

@@ -8,6 +8,9 @@ use Rattle.khiin.proofs.syllable.compose.nasalise.Tie as tie
 ends-nasal-requires : tie.Need-ends-nasal-requires
 ends-nasal-requires c κs = search needs
 
+has-nasal-requires : tie.Need-has-nasal-requires
+has-nasal-requires c κs = search needs
+
 respell-nasals-requires : tie.Need-respell-nasals-requires
 respell-nasals-requires c κs = search needs
 
@@ -15,21 +18,48 @@ same-length : tie.Need-same-length
 same-length c = search needs
 
 returns : tie.Need-returns
-returns c = rw (nasalised-yes (c .before .before .before .before .before .before .before .before .args .s .now) (sym (c .before .before .before .before .before .ends-nasal .ensures) ∙ c .before .before .before .before .if1 .taken)) (c .before .before .respell-nasals .ensures)
+returns c =
+    let r = c .before .before in
+    let t = r .before .before .before .before .before in
+    let e = t .before in
+    rw (nasalised-yes (e .before .before .before .args .s .now) (sym (e .ends-nasal .ensures) ∙ t .if1 .taken)) (r .respell-nasals .ensures)
+
+end-in-sign-requires : tie.Need-end-in-sign-requires
+end-in-sign-requires c κs =
+    let l = c .before in
+    let t = l .before .before .before in
+    (sym (t .before .ends-nasal .ensures) ∙ t .if1 .taken, l .before .has-nasal .ensures (l .if2 .left))
 
 same-length-2 : tie.Need-same-length-2
 same-length-2 c = search needs
 
 returns-2 : tie.Need-returns-2
-returns-2 c = let s = c .before .before .before .before .args .s .now in rw (nasalised-no s (sym (c .before .ends-nasal .ensures) ∙ c .if1 .left)) (front-whole s)
+returns-2 c =
+    let r = c .before .before in
+    let t = r .before .before .before .before .before in
+    let e = t .before in
+    rw (nasalised-yes (e .before .before .before .args .s .now) (sym (e .ends-nasal .ensures) ∙ t .if1 .taken)) (r .end-in-sign .ensures)
+
+same-length-3 : tie.Need-same-length-3
+same-length-3 c = search needs
+
+returns-3 : tie.Need-returns-3
+returns-3 c =
+    let e = c .before in
+    let s = e .before .before .before .args .s .now in
+    rw (nasalised-no s (sym (e .ends-nasal .ensures) ∙ c .if1 .left)) (front-whole s)
 
 pub nasalise-spec : {M : Type 1} → statement M
 nasalise-spec =
     tie.close
     (tie.spec
     ends-nasal-requires
+    has-nasal-requires
     respell-nasals-requires
     same-length
     returns
+    end-in-sign-requires
     same-length-2
-    returns-2)
+    returns-2
+    same-length-3
+    returns-3)

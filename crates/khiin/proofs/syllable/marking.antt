@@ -1,0 +1,4 @@
+pub mod Facts
+pub mod Settled
+pub mod Marked
+pub mod Letters
