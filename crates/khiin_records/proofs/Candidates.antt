@@ -8,7 +8,7 @@ use native.Mathlib.Omega.{arith}
 use lib.Dec.{eqb}
 use lib.ListN.{length, length-append}
 use lib.Seq.{paste}
-use Rattle.ji.specs.Unicode.{Table, unicode16, listed}
+use Rattle.ji.specs.Unicode.{Table, unicode16, members, listed}
 use Rattle.ji.specs.Text.{point}
 use Rattle.ji.specs.Utf8.{encode}
 use Rattle.ji.specs.Written.{Written}
@@ -27,7 +27,7 @@ use Rattle.ji.proofs.Bools.{either, false-true, or-no, text-yes, text-no}
 use Rattle.ji.proofs.Replies.{placed-written}
 use Rattle.ji.proofs.Writing.{written-run}
 use Rattle.ji.proofs.unicode.Bytes.{encode-nil, encode-append}
-use Rattle.ji.proofs.unicode.Checked.{Passed, check-passed}
+use Rattle.ji.proofs.unicode.Checked.{Passed, check-passed, check-passes}
 use Rattle.ji.proofs.lomaji.khin.Laws.{after-khin-length}
 use Rattle.ji.proofs.lomaji.keys.Bytes.{stripped-bytes}
 use Rattle.khiin_records.specs.Syllable.{Syllable, raw, toneDigit, khinKey, candidate, fromComposed, candidatesOf, candidateIn, candidateOf, candidateCall, placedRecord, recordReply}
@@ -51,6 +51,15 @@ pub candidate-good : (text : List ℕ) (position : ℕ) (buffer u : List ℕ) �
 unfolding candidateCall fromComposed
 candidate-good text position buffer [] e h = absurd (omega arith)
 candidate-good text position buffer (c ∷ s) e h = sym (ap (λ (k : Checked). candidateOf unicode16 k position buffer) e)
+
+-- a text without bytes is good and empty
+nothing-good : checkText unicode16 [] ≡ good []
+unfolding checkText members
+nothing-good = ap (checkText unicode16) (sym encode-nil) ∙ check-passes 256 [] refl (omega (arith, ap length encode-nil))
+
+pub empty-good : (text : List ℕ) → length text ≡ 0 → checkText unicode16 text ≡ good []
+empty-good [] h = nothing-good
+empty-good (b ∷ text) h = absurd (omega (arith, h))
 
 pub passed : (text u : List ℕ) → checkText unicode16 text ≡ good u → Passed unicode16 256 text u
 unfolding checkText
@@ -86,6 +95,16 @@ module _ (t : Tone) (k : Khin) (u : List ℕ) (buffer : List ℕ) where
   by-vowel false e (suc zero) h = absurd (h refl)
   by-vowel dotted e (suc (suc n)) h = absurd (h refl)
 
+-- the bytes of a candidate's body, and of its raw input
+module _ (t : Tone) (k : Khin) (u : List ℕ) (vowel : ℕ) (low : vowel < 0x80) where
+  body-bytes : bodyOf vowel (encode u) .text ≡ encode (candidate t k u (vowel ∷ []) .body)
+  body-bytes = ap (λ (b : Body). b .text) (body-is vowel low u)
+
+  pub raw-bytes : bodyOf vowel (encode u) .text ++ (toneDigit t ++ khinKey k) ≡ encode (raw (candidate t k u (vowel ∷ [])))
+  raw-bytes =
+      ap₂ _++_ body-bytes (sym (encode-append (toneDigit t) (khinKey k) ∙ ap₂ _++_ (ascii-bytes (toneDigit t) (digit-ascii t)) (ascii-bytes (khinKey k) (khin-ascii k))))
+      ∙ sym (encode-append (candidate t k u (vowel ∷ []) .body) (toneDigit t ++ khinKey k))
+
 -- a body and the keys behind it were written
 module _ (t : Tone) (k : Khin) (u : List ℕ) (vowel : ℕ) (low : vowel < 0x80) (buffer mid : List ℕ) (n : ℕ) (w : Written buffer mid n (bodyOf vowel (encode u) .text)) where
   abbrev made : Syllable
@@ -94,27 +113,19 @@ module _ (t : Tone) (k : Khin) (u : List ℕ) (vowel : ℕ) (low : vowel < 0x80)
   abbrev keys : List ℕ
   keys = toneDigit t ++ khinKey k
 
-  body-bytes : bodyOf vowel (encode u) .text ≡ encode (made .body)
-  body-bytes = ap (λ (b : Body). b .text) (body-is vowel low u)
-
-  raw-bytes : bodyOf vowel (encode u) .text ++ keys ≡ encode (raw made)
-  raw-bytes =
-      ap₂ _++_ body-bytes (sym (encode-append (toneDigit t) (khinKey k) ∙ ap₂ _++_ (ascii-bytes (toneDigit t) (digit-ascii t)) (ascii-bytes (khinKey k) (khin-ascii k))))
-      ∙ sym (encode-append (made .body) keys)
-
   module _ (after : List ℕ) (is : after ≡ paste mid n keys (length keys)) (room : n + length keys ≤ length buffer) where
     raw-written : Written buffer after (n + length keys) (encode (raw made))
     raw-written =
-        subst (Written buffer after (n + length keys)) raw-bytes (rw is (written-run w keys room))
+        subst (Written buffer after (n + length keys)) (raw-bytes t k u vowel low) (rw is (written-run w keys room))
 
     pub quick-done : (count : ℕ) (r : Record) → RecordOf count made (n + length keys) r → recordReply (Done r) after ≡ placedRecord count made buffer
     quick-done count r h =
         record-done count made (encode (raw made)) buffer refl (n + length keys) after r (placed-written 0 (encode (raw made)) buffer (n + length keys) after raw-written) h
 
   pub body-length : n ≡ length (encode (made .body))
-  body-length = sym (w .size) ∙ ap length body-bytes
+  body-length = sym (w .size) ∙ ap length (body-bytes t k u vowel low)
 
-keys-few : (t : Tone) (k : Khin) → length (toneDigit t ++ khinKey k) ≤ 2
+pub keys-few : (t : Tone) (k : Khin) → length (toneDigit t ++ khinKey k) ≤ 2
 keys-few t k =
     let digit : length (toneDigit t) ≤ 1 = either (isTone t)
     (λ e. omega (arith, ap length (text-yes (isTone t) ((point "0" + toneNumber t) ∷ []) [] e)))

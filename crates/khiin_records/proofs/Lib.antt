@@ -3,3 +3,4 @@ pub mod Spelling
 pub mod RawBytes
 pub mod Walking
 pub mod Candidates
+pub mod Prefixes

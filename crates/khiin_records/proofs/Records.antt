@@ -4,7 +4,7 @@ use mathlib.Core.Bool.{Bool, true, false, _&&_}
 use mathlib.Core.List.{List, [], _∷_, _++_, append-nil}
 use Prim.Native.Nat.{ℕ, zero, suc, _+_, _-_, _≤_, _<_}
 use native.Mathlib.Omega.{arith}
-use borrow.Author.Tests.{leb-true, ne-eqb}
+use borrow.Author.Tests.{le-leb, lt-leb, leb-true, ne-eqb}
 use lib.Dec.{leb, eqb}
 use lib.ListN.{length, take, drop, getD, drop-of-length-le, take-append-drop, length-append}
 use lib.Seq.{drop-cons, length-take-le}
@@ -25,7 +25,7 @@ use Rattle.ji.proofs.Bools.{either, false-true, and-yes, and-left, and-right, t
 use Rattle.ji.proofs.Replies.{refusal-some}
 use Rattle.ji.proofs.unicode.Ascii.{ascii-bytes, ascii-take}
 use Rattle.ji.proofs.unicode.Bytes.{encode-append}
-use Rattle.khiin_records.specs.Syllable.{Syllable, raw, pickSyllable, toneDigits, keyTone, fromRaw, recorded, placedRecord, recordReply, toneDigit, khinKey, candidate, pickSyllables, candidatesOf, candidateIn}
+use Rattle.khiin_records.specs.Syllable.{Syllable, raw, pickSyllable, toneDigits, keyTone, fromRaw, checkKeys, recorded, placedRecord, recordReply, toneDigit, khinKey, candidate, pickSyllables, candidatesOf, candidateIn}
 use Rattle.khiin_records.specs.Records.{RecordOf}
 use Rattle.khiin_records.specs.declared.Record.{Record}
 use Rattle.khiin_records.specs.declared.Recorded.the-variants.{Done, Refused}
@@ -74,6 +74,23 @@ written-size n text after buffer e = by-room (leb (length text) (length buffer))
     by-room false f = absurd (let z : _≡_ {A = ℕ} 0 7 = ap (λ (q : Reply). q .code) f in omega arith)
 
 -- ── from_raw
+-- the check of keys, case by case
+module _ (s : List ℕ) where
+  pub keys-long : 256 < length s → checkKeys s ≡ bad TooLong
+  unfolding checkKeys
+  keys-long h = ap (λ (b : Bool). pickChecked b (pickChecked (allAscii s) (good s) (bad OutsideTable)) (bad TooLong)) (lt-leb (length s) 256 h)
+
+  module _ (h : length s ≤ 256) where
+    keys-short : checkKeys s ≡ pickChecked (allAscii s) (good s) (bad OutsideTable)
+    unfolding checkKeys
+    keys-short = ap (λ (b : Bool). pickChecked b (pickChecked (allAscii s) (good s) (bad OutsideTable)) (bad TooLong)) (le-leb (length s) 256 h)
+
+    pub keys-outside : allAscii s ≡ false → checkKeys s ≡ bad OutsideTable
+    keys-outside e = keys-short ∙ ap (λ (b : Bool). pickChecked b (good s) (bad OutsideTable)) e
+
+    pub keys-pass : allAscii s ≡ true → checkKeys s ≡ good s
+    keys-pass e = keys-short ∙ ap (λ (b : Bool). pickChecked b (good s) (bad OutsideTable)) e
+
 -- a key other than the digits has no tone
 abbrev Apart : List (ℕ × Tone) → ℕ → Type 0
 Apart [] c = Unit {0}

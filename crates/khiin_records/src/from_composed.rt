@@ -346,9 +346,9 @@ fn is_below(s: &[u8], at: usize) -> bool
 }
 
 // How many bytes the body has, and how many candidates there are.
-struct Spelled {
-    len: usize,
-    count: u64,
+pub(crate) struct Spelled {
+    pub(crate) len: usize,
+    pub(crate) count: u64,
 }
 
 // Copies the ASCII bytes that `s` begins with, and returns their number. Most texts have no other.
@@ -407,7 +407,7 @@ fn spell_rest(s: &[u8], start: usize, vowel: u8, out: &mut [u8]) -> Spelled
 }
 
 // Writes the body of the candidate that has `vowel` for U+0358 to the front of `out`.
-fn spell(s: &[u8], vowel: u8, out: &mut [u8]) -> Spelled
+pub(crate) fn spell(s: &[u8], vowel: u8, out: &mut [u8]) -> Spelled
     requires { ⌜ length (now s) ≤ length (now out) ⌝ }
     ensures { λ r. ⌜ Written (now (out .entry)) (now (out .exit)) (r .len) (bodyOf vowel (now (s .entry)) .text) × (r .len ≤ length (now (s .entry)))
         × (r .count ≡ countOf (bodyOf vowel (now (s .entry)) .dotted)) ⌝ }
@@ -417,7 +417,7 @@ fn spell(s: &[u8], vowel: u8, out: &mut [u8]) -> Spelled
 }
 
 // Writes the tone digit and 0 for khin at `at`, and returns the place behind them.
-fn put_keys(tone: Tone, khin: Khin, out: &mut [u8], at: usize) -> usize
+pub(crate) fn put_keys(tone: Tone, khin: Khin, out: &mut [u8], at: usize) -> usize
     requires { ⌜ (isTone tone ≡ true) × (at + 2 ≤ length (now out)) ⌝ }
     ensures { λ r. ⌜ (r ≡ at + length (toneDigit tone ++ khinKey khin)) × (now (out .exit) ≡ paste (now (out .entry)) at (toneDigit tone ++ khinKey khin) (length (toneDigit tone ++ khinKey khin))) ⌝ }
 {
@@ -515,7 +515,7 @@ fn candidate_plain(text: &[u8], position: u64, out: &mut [u8]) -> Recorded
 }
 
 // An answer of the plain way, taken apart and made again, so that the quick way's answer need not go through memory to meet it.
-fn again(answer: Recorded) -> Recorded
+pub(crate) fn again(answer: Recorded) -> Recorded
     ensures { λ r. ⌜ r ≡ answer ⌝ }
 {
     match answer {

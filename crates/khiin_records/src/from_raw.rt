@@ -12,7 +12,7 @@ ghost use mathlib.Core.Path.{_≡_};
 ghost use mathlib.Core.Bool.{true};
 ghost use lib.ListN.{length};
 ghost use Rattle.ji.specs.Text.{allAscii, last};
-ghost use Rattle.khiin_records.specs.Syllable.{keyTone, fromRaw, fromRawCall, recordReply};
+ghost use Rattle.khiin_records.specs.Syllable.{keyTone, fromRaw, placedRecord, fromRawCall, recordReply};
 ghost use Rattle.khiin_records.specs.Records.{RecordOf};
 
 // The tone that a key is, None of any key but 1 to 9.
@@ -34,7 +34,7 @@ fn key_tone(key: u8) -> Tone
 }
 
 // Whether all bytes are ASCII.
-fn is_ascii(s: &[u8]) -> bool
+pub(crate) fn is_ascii(s: &[u8]) -> bool
     ensures { λ r. ⌜ r ≡ allAscii (now (s .entry)) ⌝ }
 {
     let mut i: usize = 0;
@@ -82,7 +82,17 @@ fn record_of(s: &[u8]) -> Record
     }
 }
 
-// The record of `keys`, whose raw input they are, in `out`.
+// The record of keys that are ASCII, which are its raw input, in `out`.
+pub(crate) fn place_keys(keys: &[u8], out: &mut [u8]) -> Recorded
+    ensures { λ r. ⌜ (allAscii (now (keys .entry)) ≡ true → recordReply r (now (out .exit)) ≡ placedRecord 0 (fromRaw (now (keys .entry))) (now (out .entry))) ⌝ }
+{
+    match reply::place_bytes(keys, out) {
+        TextAnswer::Refused(why) => Recorded::Refused(why),
+        TextAnswer::Done(_) => Recorded::Done(record_of(keys)),
+    }
+}
+
+// The record of `keys`.
 pub fn from_raw(keys: &[u8], out: &mut [u8]) -> Recorded
     ensures { λ r. ⌜ recordReply r (now (out .exit)) ≡ fromRawCall (now (keys .entry)) (now (out .entry)) ⌝ }
 {
@@ -90,10 +100,7 @@ pub fn from_raw(keys: &[u8], out: &mut [u8]) -> Recorded
         return Recorded::Refused(Refusal::TooLong);
     }
     if is_ascii(keys) {
-        match reply::place_bytes(keys, out) {
-            TextAnswer::Refused(why) => Recorded::Refused(why),
-            TextAnswer::Done(_) => Recorded::Done(record_of(keys)),
-        }
+        place_keys(keys, out)
     } else {
         Recorded::Refused(Refusal::OutsideTable)
     }

@@ -1,4 +1,5 @@
-// Syllable records: those of raw keys, and those that a composed syllable may be typed as.
+// Syllable records: those of raw keys, those that a composed syllable may be typed as, and how many of the keys were typed for one.
+pub mod alignment;
 pub mod from_composed;
 pub mod from_raw;
 

@@ -1,27 +1,21 @@
-use mathlib.Core.Path.{_≡_, refl, sym, ap, _∙_}
+use mathlib.Core.Path.{_≡_, sym, ap, _∙_}
 use mathlib.Core.List.{List, [], _∷_}
 use Prim.Native.Nat.{ℕ, _<_}
 use lib.ListN.{length}
-use Rattle.ji.specs.Unicode.{unicode16, members}
-use Rattle.ji.specs.Reply.{refused, Checked, good, checkText}
+use Rattle.ji.specs.Unicode.{unicode16}
+use Rattle.ji.specs.Reply.{refused, Checked}
 use Rattle.ji.specs.declared.reply.Refusal.the-variants.{TooLong}
 use Rattle.ji.proofs.Replies.{check-long}
-use Rattle.ji.proofs.unicode.Bytes.{encode-nil}
-use Rattle.ji.proofs.unicode.Checked.{check-passes}
 use Rattle.khiin_records.specs.Syllable.{default, fromComposed, candidateIn, candidateOf, candidateCall}
+use Rattle.khiin_records.proofs.Candidates.{empty-good}
 use borrow.Author.Needs.{needs}
 use native.Mathlib.Omega.{arith}
 use Rattle.khiin_records.proofs.from_composed.candidate_plain.Statement.{statement}
 use Rattle.khiin_records.proofs.from_composed.candidate_plain.Tie as tie
 
-nothing-good : checkText unicode16 [] ≡ good []
-unfolding checkText members
-nothing-good = ap (checkText unicode16) (sym encode-nil) ∙ check-passes 256 [] refl (omega (arith, ap length encode-nil))
-
 none-given : (text : List ℕ) (position : ℕ) (buffer : List ℕ) → length text ≡ 0 → candidateIn (default ∷ []) position buffer ≡ candidateCall unicode16 text position buffer
 unfolding candidateCall fromComposed
-none-given [] position buffer h = sym (ap (λ (k : Checked). candidateOf unicode16 k position buffer) nothing-good)
-none-given (b ∷ text) position buffer h = absurd (omega (arith, h))
+none-given text position buffer h = sym (ap (λ (k : Checked). candidateOf unicode16 k position buffer) (empty-good text h))
 
 too-long : (text : List ℕ) (position : ℕ) (buffer : List ℕ) → 256 < length text → refused TooLong buffer ≡ candidateCall unicode16 text position buffer
 unfolding candidateCall

@@ -1,0 +1,211 @@
+// `from_conversion_alignment`: how many of the keys were typed for a composed syllable, and their record.
+use crate::Recorded;
+use crate::from_composed::again;
+use crate::from_composed::put_keys;
+use crate::from_composed::spell;
+use crate::from_raw::is_ascii;
+use crate::from_raw::place_keys;
+use ji::lomaji::dot::holds_dot;
+use ji::lomaji::khin;
+use ji::lomaji::khin::Khin;
+use ji::lomaji::strip;
+use ji::lomaji::strip::Strip;
+use ji::reply::Refusal;
+use ji::tone;
+use ji::tone::Tone;
+ghost use mathlib.Core.Path.{_≡_};
+ghost use mathlib.Core.Bool.{true};
+ghost use mathlib.Core.List.{List, _++_};
+ghost use Prim.Native.Nat.{ℕ, _+_, _*_, _≤_, _<_};
+ghost use lib.Dec.{leb};
+ghost use lib.ListN.{length, take, drop};
+ghost use Rattle.ji.specs.Unicode.{unicode16, same};
+ghost use Rattle.ji.specs.Utf8.{encode};
+ghost use Rattle.ji.specs.Text.{allAscii, lower as lowerOf};
+ghost use Rattle.ji.specs.Tone.{isTone};
+ghost use Rattle.ji.specs.Reply.{good, checkText};
+ghost use Rattle.ji.specs.Lomaji.Khin.{withoutKhin, khinIn};
+ghost use Rattle.khiin_records.specs.Syllable.{Syllable, raw, toneDigit, khinKey, candidatesOf, recordReply};
+ghost use Rattle.khiin_records.specs.RawBytes.{bodyOf};
+ghost use Rattle.khiin_records.specs.Alignment.{sharedPrefix, nearestOf, alignedWith, alignOf, alignCall};
+
+// An ASCII letter in lower case.
+fn lower(x: u8) -> u8
+    ensures { λ r. ⌜ r ≡ lowerOf x ⌝ }
+{
+    if x < 65 {
+        return x;
+    }
+    if 90 < x {
+        return x;
+    }
+    x + 32
+}
+
+// How many keys the keys and a raw input share at their beginning, ASCII case ignored.
+fn shared_prefix(keys: &[u8], s: &[u8]) -> usize
+    ensures { λ r. ⌜ r ≡ sharedPrefix (now (keys .entry)) (now (s .entry)) ⌝ }
+{
+    let mut i: usize = 0;
+    while i < keys.len() {
+        if s.len() <= i {
+            return i;
+        }
+        if lower(keys[i]) != lower(s[i]) {
+            return i;
+        }
+        i += 1;
+    }
+    i
+}
+
+// How many keys are shared with the candidate of `s`, stripped and behind khin, that has `vowel` for U+0358. `letters` is used up.
+fn candidate_prefix(
+    keys: &[u8],
+    s: &[u8],
+    vowel: u8,
+    tone: Tone,
+    khin: Khin,
+    letters: &mut [u8],
+) -> usize
+    requires { ⌜ (isTone tone ≡ true) × (length (now s) + 2 ≤ length (now letters)) ⌝ }
+    ensures { λ r. ⌜ r ≡ sharedPrefix (now (keys .entry)) (bodyOf vowel (now (s .entry)) .text ++ (toneDigit tone ++ khinKey khin)) ⌝ }
+{
+    let spelled = spell(s, vowel, letters);
+    let body = spelled.len;
+    let len = put_keys(tone, khin, letters, body);
+    shared_prefix(keys, &letters[0..len])
+}
+
+// Whether the later of two candidates is taken, by how many keys are shared with each: of two that share as many it is the later.
+fn takes_later(earlier: usize, later: usize) -> bool
+    ensures { λ r. ⌜ r ≡ leb earlier later ⌝ }
+{
+    earlier <= later
+}
+
+// How many keys are shared with the candidate that shares most: the one with u or, where U+0358 occurs, the one with o.
+fn nearest_prefix(keys: &[u8], s: &[u8], tone: Tone, khin: Khin, letters: &mut [u8]) -> usize
+    requires { ⌜ (isTone tone ≡ true) × (length (now s) + 2 ≤ length (now letters)) ⌝ }
+    ensures { λ r. ⌜ (r ≤ length (now (keys .entry))) × ((u : List ℕ) → now (s .entry) ≡ encode u → allAscii (now (keys .entry)) ≡ true
+        → r ≡ sharedPrefix (now (keys .entry)) (raw (nearestOf (now (keys .entry)) (candidatesOf tone khin u)))) ⌝ }
+{
+    let earlier = candidate_prefix(keys, s, 0x75, tone, khin, letters);
+    if holds_dot(s) {
+        let later = candidate_prefix(keys, s, 0x6F, tone, khin, letters);
+        if takes_later(earlier, later) {
+            return later;
+        }
+    }
+    earlier
+}
+
+// Whether the key behind the one at the prefix's end is the tone's digit.
+fn tone_key_follows(keys: &[u8], prefix: usize, tone: Tone) -> bool
+    requires { ⌜ (isTone tone ≡ true) × (prefix ≤ length (now keys)) ⌝ }
+    ensures { λ r. ⌜ r ≡ same (take 1 (drop (prefix + 1) (now (keys .entry)))) (toneDigit tone) ⌝ }
+{
+    if prefix + 1 < keys.len() {
+        return keys[prefix + 1] == 48 + tone::number(tone) as u8;
+    }
+    false
+}
+
+// How many keys are aligned, where the nearest candidate has the tone and `prefix` keys are shared with it.
+fn aligned_keys(keys: &[u8], prefix: usize, tone: Tone) -> usize
+    requires { ⌜ (isTone tone ≡ true) × (prefix ≤ length (now keys)) ⌝ }
+    ensures { λ r. ⌜ ((s : Syllable) → s .tone ≡ tone → prefix ≡ sharedPrefix (now (keys .entry)) (raw s) → r ≡ alignedWith (now (keys .entry)) s) ⌝ }
+{
+    if prefix == 0 {
+        return 0;
+    }
+    if tone_key_follows(keys, prefix, tone) {
+        return prefix + 1;
+    }
+    prefix
+}
+
+// How many keys are aligned with a stripped text. `letters` is used up.
+fn align_stripped(keys: &[u8], stripped: &[u8], tone: Tone, letters: &mut [u8]) -> usize
+    requires { ⌜ (isTone tone ≡ true) × (allAscii (now keys) ≡ true) × (length (now stripped) + 2 ≤ length (now letters)) ⌝ }
+    ensures { λ r. ⌜ ((u : List ℕ) → now (stripped .entry) ≡ encode u
+        → r ≡ alignedWith (now (keys .entry)) (nearestOf (now (keys .entry)) (candidatesOf tone (khinIn u) (withoutKhin u)))) ⌝ }
+{
+    let khin = khin::khin_of(stripped);
+    let rest = khin::strip_khin(stripped);
+    let prefix = nearest_prefix(keys, rest, tone, khin, letters);
+    aligned_keys(keys, prefix, tone)
+}
+
+// The record of the keys, checked already, that are aligned with a target that is not empty. `stripped` and `letters` are used up.
+fn align_in(
+    keys: &[u8],
+    target: &[u8],
+    stripped: &mut [u8],
+    letters: &mut [u8],
+    out: &mut [u8],
+) -> Recorded
+    requires { ⌜ (allAscii (now keys) ≡ true) × (0 < length (now target)) × (5 * length (now target) ≤ 2 * length (now stripped)) × (length (now stripped) + 2 ≤ length (now letters)) ⌝ }
+    ensures { λ r. ⌜ recordReply r (now (out .exit)) ≡ alignOf unicode16 (good (now (keys .entry))) (checkText unicode16 (now (target .entry))) (now (out .entry)) ⌝ }
+{
+    match strip::strip_tone_diacritic(target, stripped) {
+        Strip::Refused(why) => Recorded::Refused(why),
+        Strip::Done(result) => {
+            let len = result.len;
+            let n = len.0;
+            let tone = result.tone;
+            let count = align_stripped(keys, &stripped[0..n], tone, letters);
+            place_keys(&keys[0..count], out)
+        }
+    }
+}
+
+// A target of at most 16 bytes: clearing small buffers is quicker.
+fn align_short(keys: &[u8], target: &[u8], out: &mut [u8]) -> Recorded
+    requires { ⌜ (allAscii (now keys) ≡ true) × (0 < length (now target)) × (length (now target) ≤ 16) ⌝ }
+    ensures { λ r. ⌜ recordReply r (now (out .exit)) ≡ alignOf unicode16 (good (now (keys .entry))) (checkText unicode16 (now (target .entry))) (now (out .entry)) ⌝ }
+{
+    let mut stripped = [0u8; 40];
+    let mut letters = [0u8; 42];
+    align_in(keys, target, &mut stripped, &mut letters, out)
+}
+
+// A target of at most 256 bytes.
+fn align_long(keys: &[u8], target: &[u8], out: &mut [u8]) -> Recorded
+    requires { ⌜ (allAscii (now keys) ≡ true) × (0 < length (now target)) × (length (now target) ≤ 256) ⌝ }
+    ensures { λ r. ⌜ recordReply r (now (out .exit)) ≡ alignOf unicode16 (good (now (keys .entry))) (checkText unicode16 (now (target .entry))) (now (out .entry)) ⌝ }
+{
+    let mut stripped = [0u8; 640];
+    let mut letters = [0u8; 642];
+    align_in(keys, target, &mut stripped, &mut letters, out)
+}
+
+// The record of the keys, checked already, that are aligned with a target. With the empty target, whose one candidate is the default, that is none.
+fn align(keys: &[u8], target: &[u8], out: &mut [u8]) -> Recorded
+    requires { ⌜ allAscii (now keys) ≡ true ⌝ }
+    ensures { λ r. ⌜ recordReply r (now (out .exit)) ≡ alignOf unicode16 (good (now (keys .entry))) (checkText unicode16 (now (target .entry))) (now (out .entry)) ⌝ }
+{
+    if target.len() == 0 {
+        place_keys(&keys[0..0], out)
+    } else if target.len() <= 16 {
+        align_short(keys, target, out)
+    } else if target.len() <= 256 {
+        again(align_long(keys, target, out))
+    } else {
+        Recorded::Refused(Refusal::TooLong)
+    }
+}
+
+// The record of the keys that were typed for the syllable `target`, which stand in `out`: no keys where there is no alignment.
+pub fn from_conversion_alignment(keys: &[u8], target: &[u8], out: &mut [u8]) -> Recorded
+    ensures { λ r. ⌜ recordReply r (now (out .exit)) ≡ alignCall unicode16 (now (keys .entry)) (now (target .entry)) (now (out .entry)) ⌝ }
+{
+    if 256 < keys.len() {
+        return Recorded::Refused(Refusal::TooLong);
+    }
+    if is_ascii(keys) {
+        align(keys, target, out)
+    } else {
+        Recorded::Refused(Refusal::OutsideTable)
+    }
+}
