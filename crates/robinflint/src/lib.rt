@@ -14,6 +14,7 @@ use ji::tone;
 use khiin::converter;
 use khiin::syllable::compose;
 use khiin_entries::key_sequence;
+use khiin_records::alignment;
 use khiin_records::from_composed;
 use khiin_records::from_raw;
 ghost use mathlib.Core.Path.{_≡_};
@@ -21,6 +22,7 @@ ghost use mathlib.Core.List.{[]};
 ghost use Rattle.ji.specs.Unicode.{unicode16};
 ghost use Rattle.ji.specs.Lomaji.Strip.{stripCall};
 ghost use Rattle.ji.specs.Lomaji.ToneLetter.{toneLetterCall};
+ghost use Rattle.khiin_records.specs.Alignment.{alignCall};
 ghost use Rattle.khiin_records.specs.Syllable.{fromRawCall, candidateCall};
 ghost use Rattle.robinflint.specs.Arguments.{composeNumbered, telexNumbered, keyingNumbered};
 ghost use Rattle.robinflint.specs.Reply.{replyOf};
@@ -74,6 +76,14 @@ pub extern "C" fn rf_candidate(text: &[u8], position: u64, out: &mut [u8]) -> Re
     ensures { λ r. ⌜ replyOf r (now (out .exit)) ≡ candidateCall unicode16 (now (text .entry)) position (now (out .entry)) ⌝ }
 {
     reply::syllable(from_composed::from_composed(text, position, out))
+}
+
+// The record of the keys that were typed for the syllable `target`: length 0 is "no alignment". Refuses with 2, 4 for the keys, 2, 3, 4 for the target, 7.
+#[no_mangle]
+pub extern "C" fn rf_align(keys: &[u8], target: &[u8], out: &mut [u8]) -> Reply
+    ensures { λ r. ⌜ replyOf r (now (out .exit)) ≡ alignCall unicode16 (now (keys .entry)) (now (target .entry)) (now (out .entry)) ⌝ }
+{
+    reply::syllable(alignment::from_conversion_alignment(keys, target, out))
 }
 
 // What a syllable record is written as. Refuses with 1, 2, 3, 4, 7.
