@@ -74,6 +74,12 @@ impl Syllable {
         input::Syllable::from_composed(text).into_iter().map(Syllable).collect()
     }
 
+    /// How many keys are aligned with the target, and their record.
+    pub fn align(keys: &str, target: &str) -> Option<(usize, Syllable)> {
+        let (length, made) = input::Syllable::from_conversion_alignment(keys, target)?;
+        Some((length, Syllable(made)))
+    }
+
     pub fn compose(&self) -> String {
         self.0.compose()
     }

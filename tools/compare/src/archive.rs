@@ -11,6 +11,7 @@ extern "C" {
     fn rf_candidate(text: *const u8, text_len: usize, position: u64, out: *mut u8, out_len: usize) -> Reply;
     fn rf_keying(entry: *const u8, entry_len: usize, kind: u64, position: u64, out: *mut u8, out_len: usize) -> Reply;
     fn rf_telex(text: *const u8, text_len: usize, key: u64, mode: u64, tone_keys: *const [u8; 7], out: *mut u8, out_len: usize) -> Reply;
+    fn rf_align(keys: *const u8, keys_len: usize, target: *const u8, target_len: usize, out: *mut u8, out_len: usize) -> Reply;
     fn wb_nfd(text: *const u8, text_len: usize, out: *mut u8, out_len: usize) -> Reply;
     fn wb_nfc(text: *const u8, text_len: usize, out: *mut u8, out_len: usize) -> Reply;
     fn wb_strip_khin(text: *const u8, text_len: usize) -> Reply;
@@ -74,6 +75,13 @@ pub fn telex(text: &[u8], key: u64, mode: u64, tone_keys: &[u8; 7], out: &mut [u
     unsafe { rf_telex(text.as_ptr(), text.len(), key, mode, tone_keys, out.as_mut_ptr(), out.len()) }
 }
 
+#[inline(always)]
+pub fn align(keys: &[u8], target: &[u8], out: &mut [u8]) -> Reply {
+    unsafe {
+        rf_align(keys.as_ptr(), keys.len(), target.as_ptr(), target.len(), out.as_mut_ptr(), out.len())
+    }
+}
+
 /// Whether the archive has the listing.
 pub const LISTS: bool = cfg!(listing);
 
@@ -112,6 +120,7 @@ impl Subject for Archive {
             Call::Candidate { position } => candidate(text, position, out),
             Call::Keying { kind, position } => keying(text, kind, position, out),
             Call::Telex { key, mode } => telex(text, key, mode, second.try_into().unwrap(), out),
+            Call::Align => align(text, second, out),
             Call::Listing { from } => listing(text, from, out),
         }
     }

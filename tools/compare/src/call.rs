@@ -39,11 +39,12 @@ pub enum Call {
     Candidate { position: u64 },
     Keying { kind: u64, position: u64 },
     Telex { key: u64, mode: u64 },
+    Align,
     Listing { from: u64 },
 }
 
 /// The names of the calls, by their numbers.
-pub const NAMES: [&str; 13] = [
+pub const NAMES: [&str; 14] = [
     "strip",
     "tone_letter",
     "nfd",
@@ -56,6 +57,7 @@ pub const NAMES: [&str; 13] = [
     "candidate",
     "keying",
     "telex",
+    "align",
     "listing",
 ];
 
@@ -75,7 +77,8 @@ impl Call {
             Call::Candidate { .. } => 9,
             Call::Keying { .. } => 10,
             Call::Telex { .. } => 11,
-            Call::Listing { .. } => 12,
+            Call::Align => 12,
+            Call::Listing { .. } => 13,
         }
     }
 
@@ -91,7 +94,8 @@ impl Call {
 }
 
 /// A call and the bytes that it is given. `second` is the body that compose
-/// takes behind the raw input, or the seven tone keys of telex.
+/// takes behind the raw input, the seven tone keys of telex, or the target that
+/// the keys are aligned with.
 #[derive(Clone, Copy, Debug)]
 pub struct Question<'a> {
     pub call: Call,

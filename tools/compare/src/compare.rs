@@ -60,6 +60,7 @@ impl Subject for Tuned {
             Call::Candidate { position } => tuned::candidate(text, position, out),
             Call::Keying { kind, position } => tuned::keying(text, kind, position, out),
             Call::Telex { key, mode } => tuned::telex(text, key, mode, second.try_into().unwrap(), out),
+            Call::Align => tuned::align(text, second, out),
             Call::Listing { from } => tuned::listing(text, from, out),
             Call::ToneLetter | Call::StripKhin | Call::HasToneLetter | Call::Keys { .. } => unreachable!(),
         }
@@ -304,11 +305,13 @@ pub fn show(who: &str, question: Question, room: usize, wrong: &str, want: &Answ
     println!("  answered {:?} {}", seen.reply.fields(), hex(&seen.out));
 }
 
-/// Everything that is compared.
-pub fn run(subject: &dyn Subject, seed: u64) -> Run<'_> {
+/// Everything that is compared or, of the calls of khiin, one alone.
+pub fn run<'a>(subject: &'a dyn Subject, seed: u64, only: Option<&str>) -> Run<'a> {
     let mut run = Run::new(subject);
-    of_ji::run(&mut run, seed);
-    of_khiin::run(&mut run, seed);
+    if only.is_none() {
+        of_ji::run(&mut run, seed);
+    }
+    of_khiin::run(&mut run, seed, only);
     run
 }
 

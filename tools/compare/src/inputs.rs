@@ -66,6 +66,21 @@ pub const SETTINGS: [[u8; 7]; 16] = [
     *b"sflxjlw", *b"sflxjxw", *b"sflxjww", *b"hptkhhn", *b"2356789", *b"uoUOnNe", *b"!~-=!~A", *b"98765jj",
 ];
 
+/// Keys that alignment tells apart: the letters of its targets in both cases,
+/// digits, khin's and the marks' neighbours.
+pub const KEYS: [u8; 14] = *b"ao2u1OAn0hex-4";
+
+/// Targets of alignment: with one candidate and with two, with a mark and
+/// without, with khin, with code points that no key is.
+#[rustfmt::skip]
+pub fn aligned() -> Vec<&'static str> {
+    vec![
+        "a", "", "\u{e1}", "o\u{358}", "\u{f3}\u{358}", "A", "an", "\u{e1}n", "ah", "a\u{207f}", "o\u{358}h", "--a",
+        "--\u{e1}", "\u{b7}a", "o\u{324}", "O\u{358}", "o", "oo", "ou", "\u{1d3a}", "a\u{30d}h", "x", "1", "0",
+        "o\u{358}o\u{358}", "a\u{358}", "\u{358}", "ao\u{358}", "\u{301}", "u", "hoan", "oa",
+    ]
+}
+
 /// A starter and marks that compose, block and change places.
 pub fn marking() -> Vec<char> {
     "oa\u{301}\u{308}\u{31b}\u{323}\u{324}\u{344}\u{34f}\u{358}".chars().collect()
@@ -520,6 +535,32 @@ pub fn raw_edges() -> Vec<Vec<u8>> {
         }
     }
     all
+}
+
+/// Keys as they may be typed for a raw input: the whole, cut, in capitals, with
+/// another digit, with a key before the digit, before other keys, damaged.
+pub fn typed_keys(raw: &[u8], maker: &mut Maker) -> Vec<Vec<u8>> {
+    let random = &mut maker.random;
+    let (body, digit) = raw.split_at(raw.len().saturating_sub(1));
+    let other = [b'0' + random.below(10) as u8];
+    let cut = random.below(raw.len() + 1);
+    let key = [random.pick(&KEYS)];
+    let mut damaged = raw.to_vec();
+    if cut < damaged.len() {
+        damaged[cut] = random.below(128) as u8;
+    }
+    vec![
+        raw.to_vec(),
+        raw.to_ascii_uppercase(),
+        raw[..cut].to_vec(),
+        [body, &other].concat(),
+        [body, &key, digit].concat(),
+        [body, &other, digit].concat(),
+        [&raw[..cut], digit].concat(),
+        [&raw[..cut], &key, digit, body].concat(),
+        [raw, raw].concat(),
+        damaged,
+    ]
 }
 
 /// Entries at the bounds: their length, the number of their parts, the length

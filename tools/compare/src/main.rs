@@ -39,7 +39,7 @@ const LISTS: bool = archive::LISTS;
 #[cfg(not(feature = "archives"))]
 const LISTS: bool = true;
 
-const USAGE: &str = "usage: compare compare [SEED]
+const USAGE: &str = "usage: compare compare [SEED [CALL]]
        compare vectors DIR
        compare normalization FILE DIR
        compare replay FILE...
@@ -59,8 +59,9 @@ fn main() -> ExitCode {
 
 fn act(words: &[&str]) -> io::Result<ExitCode> {
     match words {
-        ["compare"] => Ok(compared(compare::SEED)),
-        ["compare", seed] => Ok(compared(seed.parse().map_err(|_| wrong("SEED is a number"))?)),
+        ["compare"] => Ok(compared(compare::SEED, None)),
+        ["compare", seed] => Ok(compared(number(seed)?, None)),
+        ["compare", seed, call] => Ok(compared(number(seed)?, Some(call))),
         ["vectors", folder] => vectors::write(Path::new(folder)).map(|_| ExitCode::SUCCESS),
         ["normalization", file, folder] => {
             normalization::write(Path::new(file), Path::new(folder)).map(|_| ExitCode::SUCCESS)
@@ -76,8 +77,12 @@ fn wrong(text: &str) -> io::Error {
     io::Error::new(io::ErrorKind::InvalidInput, text)
 }
 
-fn compared(seed: u64) -> ExitCode {
-    let run = compare::run(SUBJECT, seed);
+fn number(seed: &str) -> io::Result<u64> {
+    seed.parse().map_err(|_| wrong("SEED is a number"))
+}
+
+fn compared(seed: u64, only: Option<&str>) -> ExitCode {
+    let run = compare::run(SUBJECT, seed, only);
     run.print(seed);
     ExitCode::from((run.differences() > 0) as u8)
 }

@@ -89,6 +89,7 @@ fn accepted(question: Question, text: &str, body: &str) -> Answer {
             let key = char::from_u32(key as u32).unwrap();
             Answer::text(settings(mode, question.second).telex(text, key), 0)
         }
+        Call::Align => aligned(text, body),
         Call::StripKhin | Call::Listing { .. } => unreachable!(),
     }
 }
@@ -103,6 +104,17 @@ pub fn settings(mode: u64, keys: &[u8]) -> Settings {
 pub fn candidates(text: &str) -> Vec<Answer> {
     let all = Syllable::from_composed(text);
     all.iter().map(|syllable| Answer::record(syllable, all.len())).collect()
+}
+
+/// The record of the aligned keys; "no alignment" has nothing but zeros.
+fn aligned(keys: &str, target: &str) -> Answer {
+    match Syllable::align(keys, target) {
+        Some((length, syllable)) => {
+            assert_eq!(length, syllable.raw().len());
+            Answer::record(&syllable, 0)
+        }
+        None => Answer::numbers(Reply::default()),
+    }
 }
 
 /// The answer at a position, which is refused where there is none.

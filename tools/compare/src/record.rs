@@ -98,6 +98,7 @@ fn call(number: u8, first: u64, second: u64, position: u64) -> Option<Call> {
         9 => Call::Candidate { position },
         10 => Call::Keying { kind: first, position },
         11 => Call::Telex { key: second, mode: first },
+        12 => Call::Align,
         _ => return None,
     })
 }
@@ -128,6 +129,7 @@ mod tests {
             Call::Candidate { position: u64::MAX },
             Call::Keying { kind: 2, position: 1 << 32 },
             Call::Telex { key: 0x7E, mode: 1 },
+            Call::Align,
         ]
     }
 

@@ -40,12 +40,12 @@ pub fn accept<'a>(question: &Question<'a>) -> Result<(&'a str, &'a str), u64> {
         return Err(1);
     }
     let first = match question.call {
-        Call::FromRaw => keys(question.text)?,
+        Call::FromRaw | Call::Align => keys(question.text)?,
         Call::Keying { .. } | Call::Listing { .. } => entry(question.text)?,
         _ => text(question.text)?,
     };
     let second = match question.call {
-        Call::Compose { .. } => text(question.second)?,
+        Call::Compose { .. } | Call::Align => text(question.second)?,
         _ => "",
     };
     Ok((first, second))
@@ -139,6 +139,21 @@ mod tests {
         assert_eq!(code(Call::FromRaw, &[0x7F], b""), 0);
         assert_eq!(code(Call::FromRaw, &[0x80], b""), 4);
         assert_eq!(code(Call::FromRaw, &[0xFF; 257], b""), 2);
+    }
+
+    #[test]
+    fn alignment_looks_at_its_keys_then_at_its_target() {
+        for (keys, target, want) in [
+            (&LONG[..256], &LONG[..256], 0),
+            (&LONG, ILL, 2),
+            (ILL, &LONG, 4),
+            (OUTSIDE, ILL, 4),
+            (b"a", &LONG, 2),
+            (b"a", ILL, 3),
+            (b"a", OUTSIDE, 4),
+        ] {
+            assert_eq!(code(Call::Align, keys, target), want);
+        }
     }
 
     #[test]

@@ -33,6 +33,8 @@ enum What {
     Candidate(u64),
     /// The key is typed behind the text.
     Telex(u8),
+    /// The text is the keys, so many bytes, and the target behind them.
+    Align(usize),
     Keying(u64, u64),
     /// Every keying of every kind, a call for each.
     EveryKeying,
@@ -99,6 +101,7 @@ calls! {
     candidate(text: &[u8], position: u64);
     keying(entry: &[u8], kind: u64, position: u64);
     telex(text: &[u8], key: u64, mode: u64, keys: &[u8; 7]);
+    align(keys: &[u8], target: &[u8]);
     listing(entry: &[u8], from: u64);
 }
 
@@ -149,6 +152,10 @@ fn lent<'a>(calls: impl Calls + 'a, job: &'a Job) -> Side<'a> {
                 calls.telex(black_box(text), black_box(key as u64), black_box(1), black_box(keys), out)
             })
         }
+        What::Align(keys) => {
+            let (keys, target) = text.split_at(keys);
+            lending(move |out| calls.align(black_box(keys), black_box(target), out))
+        }
         What::Keying(kind, position) => {
             lending(move |out| calls.keying(black_box(text), black_box(kind), black_box(position), out))
         }
@@ -192,6 +199,10 @@ fn reference(job: &Job) -> Side<'_> {
         What::Telex(key) => {
             let settings = oracle::settings(1, &SETTINGS[0]);
             repeated(move || black_box(&settings).telex(black_box(text), black_box(key as char)))
+        }
+        What::Align(keys) => {
+            let (keys, target) = text.split_at(keys);
+            repeated(move || Syllable::align(black_box(keys), black_box(target)))
         }
         What::Keying(..) | What::EveryKeying | What::Listing => {
             let parts = text.split(' ').count();
@@ -250,6 +261,8 @@ fn of_khiin() -> Vec<Job> {
     let four = "b\u{f3}\u{358} s\u{f4}\u{358} k\u{f2}\u{358} l\u{14d}\u{358}";
     let two = "t\u{e2}i o\u{e2}n";
     let long = KEYS.repeat(3)[..209].to_string() + "2";
+    let align = |name, keys: &str, target: &str| job(name, What::Align(keys.len()), &[keys, target].concat());
+    let many = text(128);
     vec![
         job("from_raw `hoan2`", What::FromRaw, "hoan2"),
         job("compose `hoan2`", What::Compose, "hoan2"),
@@ -268,6 +281,10 @@ fn of_khiin() -> Vec<Job> {
         job("telex `ah` and j", What::Telex(b'j'), "ah"),
         job("telex `soa\u{207f}` and l", What::Telex(b'l'), "soa\u{207f}"),
         job("telex syllables and s", What::Telex(b's'), &text(210)),
+        align("align `hoan2` with `ho\u{e1}n`", "hoan2", "ho\u{e1}n"),
+        align("align `oo2` with `\u{f3}\u{358}`", "oo2", "\u{f3}\u{358}"),
+        align("align `kiah8` with `ho\u{e1}n`", "kiah8", "ho\u{e1}n"),
+        align("align keys with syllables", Syllable::from_composed(&many)[0].raw(), &many),
         job("keying N 1 of `t\u{e2}i o\u{e2}n`", What::Keying(1, 1), two),
         job("keying N 137 of the four parts", What::Keying(1, 137), four),
         job("every keying of the four parts", What::EveryKeying, four),
@@ -316,7 +333,8 @@ pub fn run(part: &str) {
     println!("Nanoseconds a call: medians of {REPETITIONS} repetitions in one process, release builds, the sides in turn.");
     println!("Buffers are not cleared between calls. The archives and the hand-tuned Rust take bytes, check them and");
     println!("write to a lent buffer; the Rust takes a checked str and returns new Strings. The Rust makes all candidates");
-    println!("of a text and all keyings of an entry at once, and so it does in the rows of a single one. The four parts are");
+    println!("of a text and all keyings of an entry at once, and so it does in the rows of a single one. The bytes of an");
+    println!("alignment are those of both texts. The four parts are");
     println!("`b\u{f3}\u{358} s\u{f4}\u{358} k\u{f2}\u{358} l\u{14d}\u{358}`, which have 528 keyings.");
     println!();
     println!("| call | bytes | archive | hand-tuned Rust | Rust | archive / hand-tuned | Rust / archive | Rust / hand-tuned |");

@@ -57,6 +57,7 @@ fn accepted(question: Question, text: &str, body: &str, out: &mut [u8]) -> Reply
         Call::Telex { key, mode } => {
             written(&telex::step(text, key as u8 as char, mode, question.second), Reply::default(), out)
         }
+        Call::Align => syllable::align(text, body).reply(0, out),
         _ => unreachable!(),
     }
 }

@@ -16,7 +16,7 @@ mod telex;
 
 pub use compose::compose;
 pub use entry::{keying, listing};
-pub use syllable::{candidate, from_raw};
+pub use syllable::{align, candidate, from_raw};
 pub use telex::telex;
 
 use crate::call::Reply;

@@ -100,6 +100,7 @@ pub fn write(folder: &Path) -> io::Result<()> {
     strip_khin(&mut lists, maker);
     keys(&mut lists, maker);
     of_khiin::add(&mut lists, &mut Maker::new(SEED ^ 1));
+    of_khiin::align(&mut lists, &mut Maker::new(SEED ^ 2));
     fs::create_dir_all(folder)?;
     for (name, (bytes, count)) in NAMES.iter().zip(lists.bytes.iter().zip(lists.counts)) {
         fs::write(folder.join(name).with_extension("bin"), bytes)?;

@@ -8,27 +8,47 @@ use crate::oracle::{self, Answer};
 use crate::random::Random;
 use crate::rules;
 
-/// Each family draws from a seed of its own, as those of ji do.
-pub fn run(run: &mut Run, seed: u64) {
-    raw_short(run);
-    raw_random(run, &mut Maker::new(seed ^ 11));
-    candidates_short(run, &mut Random(seed ^ 12));
-    candidates_of_syllables(run, &mut Random(seed ^ 13));
-    candidates_random(run, &mut Maker::new(seed ^ 14));
-    entries_short(run, &mut Random(seed ^ 15));
-    entries_of_syllables(run, &mut Random(seed ^ 16));
-    entries_random(run, &mut Maker::new(seed ^ 17));
-    entries_at_bounds(run, &mut Maker::new(seed ^ 18));
-    listings(run, &mut Maker::new(seed ^ 19));
-    compose_short(run, &mut Maker::new(seed ^ 20));
-    compose_syllables(run, &mut Random(seed ^ 21));
-    compose_random(run, &mut Maker::new(seed ^ 22));
-    compose_at_bounds(run, &mut Maker::new(seed ^ 23));
-    telex_points(run);
-    telex_short(run, &mut Maker::new(seed ^ 24));
-    telex_syllables(run, &mut Maker::new(seed ^ 25));
-    telex_random(run, &mut Maker::new(seed ^ 26));
-    telex_at_bounds(run, &mut Maker::new(seed ^ 27));
+/// The families of each call or, where one is named, of that call alone. Each
+/// family draws from a seed of its own, as those of ji do.
+pub fn run(run: &mut Run, seed: u64, only: Option<&str>) {
+    let wanted = |call| only.map_or(true, |name| name == call);
+    if wanted("from_raw") {
+        raw_short(run);
+        raw_random(run, &mut Maker::new(seed ^ 11));
+    }
+    if wanted("candidate") {
+        candidates_short(run, &mut Random(seed ^ 12));
+        candidates_of_syllables(run, &mut Random(seed ^ 13));
+        candidates_random(run, &mut Maker::new(seed ^ 14));
+    }
+    if wanted("keying") {
+        entries_short(run, &mut Random(seed ^ 15));
+        entries_of_syllables(run, &mut Random(seed ^ 16));
+        entries_random(run, &mut Maker::new(seed ^ 17));
+        entries_at_bounds(run, &mut Maker::new(seed ^ 18));
+    }
+    if wanted("listing") {
+        listings(run, &mut Maker::new(seed ^ 19));
+    }
+    if wanted("compose") {
+        compose_short(run, &mut Maker::new(seed ^ 20));
+        compose_syllables(run, &mut Random(seed ^ 21));
+        compose_random(run, &mut Maker::new(seed ^ 22));
+        compose_at_bounds(run, &mut Maker::new(seed ^ 23));
+    }
+    if wanted("telex") {
+        telex_points(run);
+        telex_short(run, &mut Maker::new(seed ^ 24));
+        telex_syllables(run, &mut Maker::new(seed ^ 25));
+        telex_random(run, &mut Maker::new(seed ^ 26));
+        telex_at_bounds(run, &mut Maker::new(seed ^ 27));
+    }
+    if wanted("align") {
+        align_short(run);
+        align_syllables(run, &mut Maker::new(seed ^ 28));
+        align_random(run, &mut Maker::new(seed ^ 29));
+        align_at_bounds(run, &mut Maker::new(seed ^ 30));
+    }
 }
 
 /// A few of each call, for the tests of the comparison.
@@ -60,6 +80,15 @@ pub fn small(run: &mut Run) {
     }
     telex(run, b"ah", b'j' as u64, 1, &SETTINGS[0]);
     telex(run, b"a", b's' as u64, 0, b"sflxjj ");
+    for target in inputs::aligned() {
+        for size in 0..=3 {
+            inputs::byte_tuples(&inputs::KEYS[..6], size, &mut |keys| align(run, keys, target.as_bytes()));
+        }
+    }
+    for text in inputs::faults() {
+        align(run, &text, &[b'o'; 257]);
+        align(run, b"o", &text);
+    }
 }
 
 // ---- from_raw
@@ -519,4 +548,103 @@ fn telex_at_bounds(run: &mut Run, maker: &mut Maker) {
         }
     }
     run.family("telex: the bounds, wrong keys, modes and settings");
+}
+
+// ---- alignment
+
+fn align(run: &mut Run, keys: &[u8], target: &[u8]) {
+    run.ask(Question { call: Call::Align, text: keys, second: target });
+}
+
+fn align_short(run: &mut Run) {
+    let targets = inputs::aligned();
+    for (size, keys, step) in [(0, 14, 1), (1, 14, 1), (2, 14, 1), (3, 14, 1), (4, 14, 2), (5, 7, 2)] {
+        inputs::byte_tuples(&inputs::KEYS[..keys], size, &mut |keys| {
+            for target in targets.iter().step_by(step) {
+                align(run, keys, target.as_bytes());
+            }
+        });
+    }
+    run.family("align: every keys of up to 4 out of 14, and 5 out of 7, with telling targets");
+    let few: Vec<char> = "aoO\u{358}\u{301}\u{324}\u{207f}h-\u{b7}".chars().collect();
+    for size in 0..=3 {
+        inputs::tuples(&few, size, &mut |target| {
+            for count in 0..=2 {
+                inputs::byte_tuples(&inputs::KEYS[..12], count, &mut |keys| align(run, keys, target));
+            }
+        });
+    }
+    run.family("align: every target of up to 3 out of 10, with every keys of up to 2 out of 12");
+    inputs::tuples(&rules::table(), 1, &mut |target| {
+        for key in 0..=127 {
+            align(run, &[key], target);
+            align(run, &[key, b'x', b'1'], target);
+        }
+    });
+    inputs::byte_tuples(&(0..=255).collect::<Vec<u8>>(), 2, &mut |keys| align(run, keys, b"a\xCD\x98"));
+    run.family("align: every ASCII key with every code point of the table, every two bytes as keys");
+}
+
+/// The keys of every well-formed syllable as they may be typed, whole and damaged.
+fn align_syllables(run: &mut Run, maker: &mut Maker) {
+    inputs::syllables(&mut |target| {
+        let khin = maker.random.pick(&["", "", "", "--", "\u{b7}", "-"]);
+        let target = [khin.as_bytes(), target].concat();
+        for record in oracle::candidates(std::str::from_utf8(&target).unwrap()) {
+            for keys in inputs::typed_keys(&record.out, maker) {
+                align(run, &keys, &target);
+            }
+        }
+    });
+    run.family("align: every well-formed syllable with its keys, whole, cut, with another or a later digit, damaged");
+}
+
+fn align_random(run: &mut Run, maker: &mut Maker) {
+    for turn in 0..150_000 {
+        let size = 1 + maker.random.below(10);
+        let target = maker.pieces(STYLES[turn % STYLES.len()], size);
+        let Ok(good) = rules::text(&target) else { continue };
+        let record = oracle::candidates(good).pop().unwrap();
+        let keys: Vec<u8> = record.out.iter().filter(|byte| byte.is_ascii()).copied().collect();
+        for keys in inputs::typed_keys(&keys, maker) {
+            align(run, &keys, &target);
+        }
+        let copy = maker.damaged(&target);
+        align(run, &keys, &copy);
+    }
+    run.family("align: random targets, and damaged ones, with keys like theirs");
+}
+
+/// Every length of both texts, each fault of the one with each of the other.
+fn align_at_bounds(run: &mut Run, maker: &mut Maker) {
+    for size in 0..=260 {
+        for turn in 0..35 {
+            let target = maker.text(STYLES[turn % STYLES.len()], size);
+            let count = maker.random.below(260);
+            align(run, &maker.text(Style::Ascii, count), &target);
+            let Ok(good) = rules::text(&target) else { continue };
+            for record in oracle::candidates(good) {
+                align(run, &record.out, &target);
+                align(run, &record.out[..record.out.len().min(256)], &target);
+            }
+            let keys = maker.text(Style::Ascii, size);
+            align(run, &keys, &keys);
+            align(run, &keys, &keys[..count.min(size)]);
+        }
+    }
+    let (keys, targets) = (inputs::raw_edges(), inputs::edges());
+    for keys in &keys {
+        align(run, keys, b"o");
+    }
+    for target in &targets {
+        align(run, b"o2", target);
+        align(run, &[0x80], target);
+        align(run, &[b'o'; 257], target);
+    }
+    for keys in keys.iter().step_by(7) {
+        for target in targets.iter().step_by(5) {
+            align(run, keys, target);
+        }
+    }
+    run.family("align: keys and targets of every length, the bounds, the faults of one with those of the other");
 }

@@ -153,3 +153,17 @@ pub fn from_composed(text: &str) -> Vec<Record> {
     };
     vowels.iter().map(record).collect()
 }
+
+/// The record of the keys that were typed for the target: of none where none were.
+pub fn align(keys: &str, target: &str) -> Record {
+    let shared = |record: &Record| {
+        let lower = |text: &str| text.to_ascii_lowercase().into_bytes();
+        lower(keys).iter().zip(lower(&record.raw)).take_while(|(key, byte)| *key == byte).count()
+    };
+    let all = from_composed(target);
+    // Of equal ones the later.
+    let (prefix, tone) = all.iter().map(|record| (shared(record), record.tone)).max().unwrap();
+    let digit = b"0123456789"[tone as usize];
+    let grows = prefix > 0 && tone > 0 && keys.as_bytes().get(prefix + 1) == Some(&digit);
+    from_raw(&keys[..prefix + grows as usize])
+}

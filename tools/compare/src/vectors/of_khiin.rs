@@ -492,3 +492,105 @@ fn telex_refusals(lists: &mut Lists) {
         }
     }
 }
+
+// ---- alignment
+
+fn both<'a>(keys: &'a [u8], target: &'a [u8]) -> Question<'a> {
+    Question { call: Call::Align, text: keys, second: target }
+}
+
+pub fn align(lists: &mut Lists, maker: &mut Maker) {
+    for (keys, target) in [
+        ("a1i1", "a"),
+        ("b", "a"),
+        ("ax1", "a"),
+        ("o11", "o\u{358}"),
+        ("a2x2", "\u{e1}"),
+        ("--a2", "--\u{e1}"),
+        ("hoan2", "ho\u{e1}n"),
+        ("oo2", "\u{f3}\u{358}"),
+        ("ou2", "\u{f3}\u{358}"),
+        ("a20", "--\u{e1}"),
+        ("A1", "a"),
+        ("1", ""),
+        ("", "a"),
+        ("", ""),
+    ] {
+        lists.with_rooms(both(keys.as_bytes(), target.as_bytes()));
+    }
+    align_refusals(lists);
+    align_short(lists);
+    align_syllables(lists, maker);
+    for turn in 0..300 {
+        let target = maker.pieces(STYLES[turn % STYLES.len()], 1 + turn % 8);
+        let record = oracle::candidates(std::str::from_utf8(&target).unwrap()).pop().unwrap();
+        let keys: Vec<u8> = record.out.iter().filter(|byte| byte.is_ascii()).copied().collect();
+        for keys in inputs::typed_keys(&keys, maker) {
+            lists.exact(both(&keys, &target));
+        }
+        let copy = maker.damaged(&target);
+        lists.bounded(both(&keys, &copy));
+    }
+}
+
+/// Each fault of the keys with each of the target, and every bound of both.
+fn align_refusals(lists: &mut Lists) {
+    let texts = faulty_texts();
+    for keys in &texts {
+        for target in &texts {
+            lists.refused_too(both(keys, target));
+        }
+    }
+    for keys in inputs::raw_edges() {
+        if keys.len() <= 300 {
+            lists.refused_too(both(&keys, b"o"));
+        }
+    }
+    for target in inputs::edges() {
+        if target.len() <= 260 && target.len() != 255 {
+            lists.bounded(both(b"o2", &target));
+        }
+    }
+    for byte in 0..=255 {
+        lists.refused_too(both(&[byte], b"a"));
+        lists.refused_too(both(&[b'a', byte, b'1'], b"a"));
+    }
+    for text in ["\u{1d9}", "\u{344}", "o\u{358}", "\u{207f}", "u\u{324}", "o"] {
+        let long = text.repeat(256 / text.len());
+        for record in oracle::candidates(&long) {
+            let keys: Vec<u8> = record.out.iter().filter(|byte| byte.is_ascii()).copied().collect();
+            lists.with_rooms(both(&keys[..keys.len().min(256)], long.as_bytes()));
+        }
+    }
+}
+
+fn align_short(lists: &mut Lists) {
+    for target in inputs::aligned() {
+        for size in 0..=2 {
+            inputs::byte_tuples(&inputs::KEYS[..12], size, &mut |keys| {
+                lists.exact(both(keys, target.as_bytes()))
+            });
+        }
+    }
+    for target in inputs::aligned().iter().take(12) {
+        inputs::byte_tuples(&inputs::KEYS[..7], 3, &mut |keys| lists.exact(both(keys, target.as_bytes())));
+    }
+}
+
+/// One in sixteen of the well-formed syllables, with keys as they may be typed.
+fn align_syllables(lists: &mut Lists, maker: &mut Maker) {
+    let mut count = 0;
+    inputs::syllables(&mut |text| {
+        count += 1;
+        if count % 16 != 1 {
+            return;
+        }
+        let khin = ["", "", "--", "\u{b7}"][count / 16 % 4];
+        let target = [khin.as_bytes(), text].concat();
+        for record in oracle::candidates(std::str::from_utf8(&target).unwrap()) {
+            lists.exact(both(&record.out, &target));
+            let typed = inputs::typed_keys(&record.out, maker);
+            lists.with_rooms(both(&typed[count / 16 % typed.len()], &target));
+        }
+    });
+}
