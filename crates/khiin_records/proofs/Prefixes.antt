@@ -2,7 +2,7 @@
 -- keys are aligned; and the call, once the texts are checked.
 use mathlib.Core.Path.{_≡_, refl, sym, ap, ap₂, _∙_}
 use mathlib.Core.Bool.{Bool, true, false, _&&_}
-use mathlib.Core.List.{List, [], _∷_, _++_}
+use mathlib.Core.List.{List, [], _∷_, _++_, append-assoc, append-nil}
 use Prim.Native.Nat.{ℕ, suc, _+_, _/_, _≤_, _<_}
 use native.Mathlib.Decide.{decLe}
 use native.Mathlib.Omega.{arith}
@@ -11,7 +11,7 @@ use lib.Dec.{leb, eqb}
 use lib.ListN.{length, take, drop, getD, drop-of-length-le}
 use lib.Seq.{paste}
 use Rattle.ji.specs.Unicode.{Table, pickNumber, same, listed}
-use Rattle.ji.specs.Text.{point, points, within, lower, allAscii}
+use Rattle.ji.specs.Text.{point, points, begins, within, lower, allAscii}
 use Rattle.ji.specs.Utf8.{encode}
 use Rattle.ji.specs.Written.{Written}
 use Rattle.ji.specs.Tone.{toneNumber, isTone}
@@ -22,15 +22,17 @@ use Rattle.ji.specs.Lomaji.Khin.{withoutKhin, khinIn}
 use Rattle.ji.specs.declared.reply.Refusal.{Refusal}
 use Rattle.ji.specs.declared.tone.Tone.{Tone}
 use Rattle.ji.specs.declared.lomaji.khin.Khin.{Khin}
-use Rattle.ji.proofs.Bools.{either, false-true, and-yes, and-left, and-right, and-true, number-yes, number-no, text-yes, within-is}
+use Rattle.ji.proofs.Bools.{either, false-true, and-no, and-yes, and-left, and-right, and-true, number-yes, number-no, text-yes, within-is}
 use Rattle.ji.proofs.Writing.{written-run}
 use Rattle.ji.proofs.text.Laws.{drop-next}
 use Rattle.ji.proofs.lomaji.dot.Laws.{dot-listed}
 use Rattle.ji.proofs.unicode.Ascii.{ascii-low, ascii-rest}
 use Rattle.ji.proofs.unicode.Bytes.{bytes-one, bytes-two, bytes-three, bytes-four, encode-nil, encode-cons, same-cons}
 use Rattle.khiin_records.specs.Syllable.{Syllable, raw, pickSyllable, default, toneDigit, khinKey, candidate, candidatesOf, fromComposed, fromRaw, placedRecord, checkKeys}
-use Rattle.khiin_records.specs.RawBytes.{bodyOf}
+use Rattle.khiin_records.specs.RawBytes.{Body, bodyFrom, bodyOf}
 use Rattle.khiin_records.specs.Alignment.{sharedPrefix, longer, nearest, nearestOf, grows, alignedWith, aligned, alignOf, alignCall}
+use Rattle.khiin_records.specs.Prefixes.{NearestPrefix}
+use Rattle.khiin_records.proofs.RawBytes.{from-copy, body-is}
 use Rattle.khiin_records.proofs.Records.{candidates-two, candidates-one}
 use Rattle.khiin_records.proofs.Candidates.{raw-bytes, keys-few}
 
@@ -74,6 +76,27 @@ prefix-fits (k ∷ keys) (c ∷ s) =
     either (eqb (lower k) (lower c))
     (λ e. omega (arith, number-yes (eqb (lower k) (lower c)) (suc (sharedPrefix keys s)) 0 e, prefix-fits keys s))
     (λ e. omega (arith, number-no (eqb (lower k) (lower c)) (suc (sharedPrefix keys s)) 0 e))
+
+-- a raw input in two parts: the prefix ends in the first part, or goes through it
+prefix-within : (keys a b : List ℕ) → sharedPrefix keys a < length a → sharedPrefix keys (a ++ b) ≡ sharedPrefix keys a
+unfolding sharedPrefix
+prefix-within [] a b h = refl
+prefix-within (k ∷ keys) [] b h = absurd (omega arith)
+prefix-within (k ∷ keys) (c ∷ a) b h =
+    either (eqb (lower k) (lower c))
+    (λ e. ap (λ (n : ℕ). pickNumber (eqb (lower k) (lower c)) (suc n) 0) (prefix-within keys a b (omega (arith, number-yes (eqb (lower k) (lower c)) (suc (sharedPrefix keys a)) 0 e))))
+    (λ e. number-no _ _ _ e ∙ sym (number-no _ _ _ e))
+
+prefix-through : (keys a b : List ℕ) → length a ≤ sharedPrefix keys a → sharedPrefix keys (a ++ b) ≡ sharedPrefix keys a + sharedPrefix (drop (sharedPrefix keys a) keys) b
+unfolding sharedPrefix
+prefix-through [] [] b h = refl
+prefix-through [] (c ∷ a) b h = absurd (omega arith)
+prefix-through (k ∷ keys) [] b h = omega arith
+prefix-through (k ∷ keys) (c ∷ a) b h =
+    either (eqb (lower k) (lower c))
+    (λ e. let f = prefix-through keys a b (omega (arith, number-yes (eqb (lower k) (lower c)) (suc (sharedPrefix keys a)) 0 e)) in
+    rw (e) (omega (arith, f)))
+    (λ e. absurd (omega (arith, number-no (eqb (lower k) (lower c)) (suc (sharedPrefix keys a)) 0 e)))
 
 -- ── over the bytes as over the code points: a byte above 7F, like a code point above it, is no key
 lower-low : (x : ℕ) → x ≤ 0x7F → lower x ≤ 0x7F
@@ -178,6 +201,47 @@ module _ (keys : List ℕ) (t : Tone) (k : Khin) (u s : List ℕ) (e : s ≡ enc
           → pickNumber b later earlier ≡ sharedPrefix keys (raw (pickSyllable b (spelt keys t k u (point "o")) (spelt keys t k u (point "u"))))
       picked true f g = g
       picked false f g = f
+
+-- ── an ASCII text is the body of its one candidate
+body-from : (vowel : ℕ) (d : List ℕ) (t : Bool) (l : ℕ) (s : List ℕ) → allAscii s ≡ true → bodyFrom vowel 0 d t l s ≡ record { text = d ++ s; dotted = t }
+unfolding bodyFrom begins
+body-from vowel d t l [] h = ap (λ (x : List ℕ). record { text = x; dotted = t }) (sym (append-nil d))
+body-from vowel d t l (b ∷ s) h =
+    let low : b ≤ 0x7F = ascii-low b s h in
+    from-copy vowel d t l b s (and-no _ _ (ne-eqb b 0xCD (λ e. omega (arith, e)))) (and-no _ _ (ne-eqb b 0xE2 (λ e. omega (arith, e))))
+    (and-no _ _ (and-no _ _ (ne-eqb b 0xCC (λ e. omega (arith, e)))))
+    ∙ body-from vowel (d ++ (b ∷ [])) t b s (ascii-rest b s h)
+    ∙ ap (λ (x : List ℕ). record { text = x; dotted = t }) (append-assoc d (b ∷ []) s)
+
+module _ (s : List ℕ) (plain : allAscii s ≡ true) where
+  body-itself : (vowel : ℕ) → bodyOf vowel s ≡ record { text = s; dotted = false }
+  unfolding bodyOf
+  body-itself vowel = body-from vowel [] false 0 s plain
+
+  no-dot : (u : List ℕ) → s ≡ encode u → dotIn s ≡ false
+  no-dot u e =
+      ap dotIn e
+      ∙ dot-listed u
+      ∙ ap (λ (b : Body). b .dotted) (sym (body-is (point "u") (omega arith) u))
+      ∙ ap (λ (l : List ℕ). bodyOf (point "u") l .dotted) (sym e)
+      ∙ ap (λ (b : Body). b .dotted) (body-itself (point "u"))
+
+  module _ (keys : List ℕ) (t : Tone) (k : Khin) (h : allAscii keys ≡ true) where
+    near : (n : ℕ) → n ≡ sharedPrefix keys (s ++ (toneDigit t ++ khinKey k)) → NearestPrefix keys s t k n
+    near n is =
+        record {
+          inside = rw is (prefix-fits _ _);
+          shared = λ u e.
+              nearest-alone keys t k u s e h n
+              (is ∙ ap (λ (b : Body). sharedPrefix keys (b .text ++ (toneDigit t ++ khinKey k))) (sym (body-itself (point "u")))) (no-dot u e);
+        }
+
+    pub near-within : (n : ℕ) → n ≡ sharedPrefix keys s → n < length s → NearestPrefix keys s t k n
+    near-within n is less = near n (is ∙ sym (prefix-within keys s (toneDigit t ++ khinKey k) (omega (arith, is))))
+
+    pub near-through : (n m : ℕ) → n ≡ sharedPrefix keys s → length s ≤ n → m ≡ sharedPrefix (drop n keys) (toneDigit t ++ khinKey k) → NearestPrefix keys s t k (n + m)
+    near-through n m is more rest =
+        near (n + m) (ap (λ (j : ℕ). n + j) rest ∙ ap (λ (j : ℕ). j + sharedPrefix (drop j keys) (toneDigit t ++ khinKey k)) is ∙ sym (prefix-through keys s (toneDigit t ++ khinKey k) (omega (arith, is))))
 
 -- ── how many keys are aligned
 digit-one : (t : Tone) → isTone t ≡ true → toneDigit t ≡ (point "0" + toneNumber t) ∷ []

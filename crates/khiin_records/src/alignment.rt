@@ -28,6 +28,7 @@ ghost use Rattle.ji.specs.Lomaji.Khin.{withoutKhin, khinIn};
 ghost use Rattle.khiin_records.specs.Syllable.{Syllable, raw, toneDigit, khinKey, candidatesOf, recordReply};
 ghost use Rattle.khiin_records.specs.RawBytes.{bodyOf};
 ghost use Rattle.khiin_records.specs.Alignment.{sharedPrefix, nearestOf, alignedWith, alignOf, alignCall};
+ghost use Rattle.khiin_records.specs.Prefixes.{NearestPrefix};
 
 // An ASCII letter in lower case.
 fn lower(x: u8) -> u8
@@ -84,11 +85,10 @@ fn takes_later(earlier: usize, later: usize) -> bool
     earlier <= later
 }
 
-// How many keys are shared with the candidate that shares most: the one with u or, where U+0358 occurs, the one with o.
-fn nearest_prefix(keys: &[u8], s: &[u8], tone: Tone, khin: Khin, letters: &mut [u8]) -> usize
-    requires { ⌜ (isTone tone ≡ true) × (length (now s) + 2 ≤ length (now letters)) ⌝ }
-    ensures { λ r. ⌜ (r ≤ length (now (keys .entry))) × ((u : List ℕ) → now (s .entry) ≡ encode u → allAscii (now (keys .entry)) ≡ true
-        → r ≡ sharedPrefix (now (keys .entry)) (raw (nearestOf (now (keys .entry)) (candidatesOf tone khin u)))) ⌝ }
+// How many keys are shared with the candidate that shares most: the one with u or, where U+0358 occurs, the one with o. `letters` is used up.
+fn spelled_prefix(keys: &[u8], s: &[u8], tone: Tone, khin: Khin, letters: &mut [u8]) -> usize
+    requires { ⌜ (isTone tone ≡ true) × (allAscii (now keys) ≡ true) × (length (now s) + 2 ≤ length (now letters)) ⌝ }
+    ensures { λ r. ⌜ NearestPrefix (now (keys .entry)) (now (s .entry)) tone khin r ⌝ }
 {
     let earlier = candidate_prefix(keys, s, 0x75, tone, khin, letters);
     if holds_dot(s) {
@@ -98,6 +98,52 @@ fn nearest_prefix(keys: &[u8], s: &[u8], tone: Tone, khin: Khin, letters: &mut [
         }
     }
     earlier
+}
+
+// Of a text of at most 40 bytes: clearing a small buffer is quicker.
+fn spelled_short(keys: &[u8], s: &[u8], tone: Tone, khin: Khin) -> usize
+    requires { ⌜ (isTone tone ≡ true) × (allAscii (now keys) ≡ true) × (length (now s) ≤ 40) ⌝ }
+    ensures { λ r. ⌜ NearestPrefix (now (keys .entry)) (now (s .entry)) tone khin r ⌝ }
+{
+    let mut letters = [0u8; 42];
+    spelled_prefix(keys, s, tone, khin, &mut letters)
+}
+
+// Of a text of at most 640 bytes.
+fn spelled_long(keys: &[u8], s: &[u8], tone: Tone, khin: Khin) -> usize
+    requires { ⌜ (isTone tone ≡ true) × (allAscii (now keys) ≡ true) × (length (now s) ≤ 640) ⌝ }
+    ensures { λ r. ⌜ NearestPrefix (now (keys .entry)) (now (s .entry)) tone khin r ⌝ }
+{
+    let mut letters = [0u8; 642];
+    spelled_prefix(keys, s, tone, khin, &mut letters)
+}
+
+// The same of an ASCII text, which is the body of its one candidate: nothing is spelled, and nothing copied.
+fn plain_prefix(keys: &[u8], s: &[u8], tone: Tone, khin: Khin) -> usize
+    requires { ⌜ (isTone tone ≡ true) × (allAscii (now keys) ≡ true) × (allAscii (now s) ≡ true) ⌝ }
+    ensures { λ r. ⌜ NearestPrefix (now (keys .entry)) (now (s .entry)) tone khin r ⌝ }
+{
+    let body = shared_prefix(keys, s);
+    if body < s.len() {
+        return body;
+    }
+    let mut behind = [0u8; 2];
+    let n = put_keys(tone, khin, &mut behind, 0);
+    body + shared_prefix(&keys[body..], &behind[0..n])
+}
+
+// The same of any text.
+fn nearest_prefix(keys: &[u8], s: &[u8], tone: Tone, khin: Khin) -> usize
+    requires { ⌜ (isTone tone ≡ true) × (allAscii (now keys) ≡ true) × (length (now s) ≤ 640) ⌝ }
+    ensures { λ r. ⌜ NearestPrefix (now (keys .entry)) (now (s .entry)) tone khin r ⌝ }
+{
+    if is_ascii(s) {
+        return plain_prefix(keys, s, tone, khin);
+    }
+    if s.len() <= 40 {
+        return spelled_short(keys, s, tone, khin);
+    }
+    spelled_long(keys, s, tone, khin)
 }
 
 // Whether the key behind the one at the prefix's end is the tone's digit.
@@ -125,27 +171,21 @@ fn aligned_keys(keys: &[u8], prefix: usize, tone: Tone) -> usize
     prefix
 }
 
-// How many keys are aligned with a stripped text. `letters` is used up.
-fn align_stripped(keys: &[u8], stripped: &[u8], tone: Tone, letters: &mut [u8]) -> usize
-    requires { ⌜ (isTone tone ≡ true) × (allAscii (now keys) ≡ true) × (length (now stripped) + 2 ≤ length (now letters)) ⌝ }
+// How many keys are aligned with a stripped text.
+fn align_stripped(keys: &[u8], stripped: &[u8], tone: Tone) -> usize
+    requires { ⌜ (isTone tone ≡ true) × (allAscii (now keys) ≡ true) × (length (now stripped) ≤ 640) ⌝ }
     ensures { λ r. ⌜ ((u : List ℕ) → now (stripped .entry) ≡ encode u
         → r ≡ alignedWith (now (keys .entry)) (nearestOf (now (keys .entry)) (candidatesOf tone (khinIn u) (withoutKhin u)))) ⌝ }
 {
     let khin = khin::khin_of(stripped);
     let rest = khin::strip_khin(stripped);
-    let prefix = nearest_prefix(keys, rest, tone, khin, letters);
+    let prefix = nearest_prefix(keys, rest, tone, khin);
     aligned_keys(keys, prefix, tone)
 }
 
-// The record of the keys, checked already, that are aligned with a target that is not empty. `stripped` and `letters` are used up.
-fn align_in(
-    keys: &[u8],
-    target: &[u8],
-    stripped: &mut [u8],
-    letters: &mut [u8],
-    out: &mut [u8],
-) -> Recorded
-    requires { ⌜ (allAscii (now keys) ≡ true) × (0 < length (now target)) × (5 * length (now target) ≤ 2 * length (now stripped)) × (length (now stripped) + 2 ≤ length (now letters)) ⌝ }
+// The record of the keys, checked already, that are aligned with a target that is not empty. `stripped` is used up.
+fn align_in(keys: &[u8], target: &[u8], stripped: &mut [u8], out: &mut [u8]) -> Recorded
+    requires { ⌜ (allAscii (now keys) ≡ true) × (0 < length (now target)) × (5 * length (now target) ≤ 2 * length (now stripped)) × (length (now stripped) ≤ 640) ⌝ }
     ensures { λ r. ⌜ recordReply r (now (out .exit)) ≡ alignOf unicode16 (good (now (keys .entry))) (checkText unicode16 (now (target .entry))) (now (out .entry)) ⌝ }
 {
     match strip::strip_tone_diacritic(target, stripped) {
@@ -154,20 +194,19 @@ fn align_in(
             let len = result.len;
             let n = len.0;
             let tone = result.tone;
-            let count = align_stripped(keys, &stripped[0..n], tone, letters);
+            let count = align_stripped(keys, &stripped[0..n], tone);
             place_keys(&keys[0..count], out)
         }
     }
 }
 
-// A target of at most 16 bytes: clearing small buffers is quicker.
+// A target of at most 16 bytes: clearing a small buffer is quicker.
 fn align_short(keys: &[u8], target: &[u8], out: &mut [u8]) -> Recorded
     requires { ⌜ (allAscii (now keys) ≡ true) × (0 < length (now target)) × (length (now target) ≤ 16) ⌝ }
     ensures { λ r. ⌜ recordReply r (now (out .exit)) ≡ alignOf unicode16 (good (now (keys .entry))) (checkText unicode16 (now (target .entry))) (now (out .entry)) ⌝ }
 {
     let mut stripped = [0u8; 40];
-    let mut letters = [0u8; 42];
-    align_in(keys, target, &mut stripped, &mut letters, out)
+    align_in(keys, target, &mut stripped, out)
 }
 
 // A target of at most 256 bytes.
@@ -176,8 +215,7 @@ fn align_long(keys: &[u8], target: &[u8], out: &mut [u8]) -> Recorded
     ensures { λ r. ⌜ recordReply r (now (out .exit)) ≡ alignOf unicode16 (good (now (keys .entry))) (checkText unicode16 (now (target .entry))) (now (out .entry)) ⌝ }
 {
     let mut stripped = [0u8; 640];
-    let mut letters = [0u8; 642];
-    align_in(keys, target, &mut stripped, &mut letters, out)
+    align_in(keys, target, &mut stripped, out)
 }
 
 // The record of the keys, checked already, that are aligned with a target. With the empty target, whose one candidate is the default, that is none.
@@ -201,9 +239,8 @@ pub fn from_conversion_alignment(keys: &[u8], target: &[u8], out: &mut [u8]) -> 
     ensures { λ r. ⌜ recordReply r (now (out .exit)) ≡ alignCall unicode16 (now (keys .entry)) (now (target .entry)) (now (out .entry)) ⌝ }
 {
     if 256 < keys.len() {
-        return Recorded::Refused(Refusal::TooLong);
-    }
-    if is_ascii(keys) {
+        Recorded::Refused(Refusal::TooLong)
+    } else if is_ascii(keys) {
         align(keys, target, out)
     } else {
         Recorded::Refused(Refusal::OutsideTable)

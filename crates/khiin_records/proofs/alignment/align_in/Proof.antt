@@ -26,7 +26,7 @@ use Rattle.khiin_records.proofs.alignment.align_in.Tie as tie
 -- the target was stripped
 module _ (c : tie.After-strip-tone-diacritic) where
   abbrev begin : tie.Start
-  begin = c .before .before .before .before .before .before .before
+  begin = c .before .before .before .before .before .before
 
   module _ (r : StripResult) (is : c .strip-tone-diacritic .result ≡ Done r) where
     done : Stripping (begin .args .target .now) (begin .args .stripped .now) (c .strip-tone-diacritic .last .1 .0) r
@@ -57,8 +57,8 @@ part-align-stripped-end c = let w = done (c .before .before .before .before .bef
 
 align-stripped-requires : tie.Need-align-stripped-requires
 align-stripped-requires c κs =
-    let d = c .before .before .before .before .before .before .before .before .before in
-    let r = c .before .before .before .before .before .result .given in
+    let d = c .before .before .before .before .before .before .before .before in
+    let r = c .before .before .before .before .result .given in
     let w = done d (r .0 .0) (r .1) .written in
     (toned d (r .0 .0) (r .1), begin d .pre .0, rw (front w, w .size) (omega (arith, w .fits, begin d .pre .3)))
 
@@ -70,11 +70,11 @@ part-place-keys-start c = search needs
 
 part-place-keys-end : tie.Need-part-place-keys-end
 part-place-keys-end c =
-    let d = c .before .before .before .before .before .before .before .before .before .before .before .before in
-    let r = c .before .before .before .before .before .before .before .before .result .given in
+    let d = c .before .before .before .before .before .before .before .before .before in
+    let r = c .before .before .before .before .before .result .given in
     let h = done d (r .0 .0) (r .1) in
     let v = strip unicode16 (h .points) .rest in
-    omega (arith, c .before .before .align-stripped .ensures v (front (h .written)), aligned-inside (begin d .args .keys .now) (r .0 .0 .tone) (khinIn v) (withoutKhin v) (toned d (r .0 .0) (r .1)))
+    omega (arith, c .align-stripped .ensures v (front (h .written)), aligned-inside (begin d .args .keys .now) (r .0 .0 .tone) (khinIn v) (withoutKhin v) (toned d (r .0 .0) (r .1)))
 
 place-keys-requires : tie.Need-place-keys-requires
 place-keys-requires c κs = search needs
@@ -96,19 +96,16 @@ same-length-2 c = search needs
 same-length-3 : tie.Need-same-length-3
 same-length-3 c = search needs
 
-same-length-4 : tie.Need-same-length-4
-same-length-4 c = search needs
-
 returns-2 : tie.Need-returns-2
 returns-2 c =
-    let d = c .before .before .before .before .before .before .before .before .before .before .before .before .before .before .before .before .before in
-    let r = c .before .before .before .before .before .before .before .before .before .before .before .before .before .result .given in
+    let d = c .before .before .before .before .before .before .before .before .before .before .before .before .before .before in
+    let r = c .before .before .before .before .before .before .before .before .before .before .result .given in
     let a = begin d in
     let keys = a .args .keys .now in
     let h = done d (r .0 .0) (r .1) in
     let u = h .points in
     let v = strip unicode16 u .rest in
-    let n = c .before .before .before .before .before .before .before .align-stripped in
+    let n = c .before .before .before .before .before .align-stripped in
     c .before .before .place-keys .ensures (ascii-take (n .result - 0) keys (a .pre .0))
     ∙ align-target-good unicode16 keys (a .args .target .now) (a .args .out .now) (n .result - 0) u (h .good)
     (sub-zero (n .result)
@@ -135,5 +132,4 @@ align-in-spec =
     returns
     same-length-2
     same-length-3
-    same-length-4
     returns-2)

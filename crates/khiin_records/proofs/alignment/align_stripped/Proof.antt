@@ -18,22 +18,19 @@ strip-khin-requires : tie.Need-strip-khin-requires
 strip-khin-requires c κs = search needs
 
 nearest-prefix-requires : tie.Need-nearest-prefix-requires
-nearest-prefix-requires c κs = let a = c .before .before .before .before .before .before in (a .pre .0, omega (arith, ap length (c .before .strip-khin .ensures), after-khin-length (a .args .stripped .now), a .pre .2))
+nearest-prefix-requires c κs = let a = c .before .before .before .before in (a .pre .0, a .pre .1, omega (arith, ap length (c .strip-khin .ensures), after-khin-length (a .args .stripped .now), a .pre .2))
 
 aligned-keys-requires : tie.Need-aligned-keys-requires
-aligned-keys-requires c κs = (c .before .before .before .before .before .before .before .before .before .pre .0, c .before .before .nearest-prefix .ensures .0)
-
-same-length : tie.Need-same-length
-same-length c = search needs
+aligned-keys-requires c κs = (c .before .before .before .before .before .pre .0, c .nearest-prefix .ensures .inside)
 
 returns : tie.Need-returns
 returns c =
-    let a = c .before .before .before .before .before .before .before .before .before .before in
-    let khin = c .before .before .before .before .before .before .khin-of in
+    let a = c .before .before .before .before .before .before .args in
+    let khin = c .before .before .before .khin-of in
     λ u e.
-    c .aligned-keys .ensures (nearestOf (a .args .keys .now) (candidatesOf (a .args .tone) (khin .result) (withoutKhin u))) (nearest-tone (a .args .keys .now) (a .args .tone) (khin .result) (withoutKhin u))
-    (c .before .before .before .nearest-prefix .ensures .1 (withoutKhin u) (c .before .before .before .before .before .strip-khin .ensures ∙ ap afterKhin e ∙ after-points u) (a .pre .1))
-    ∙ ap (λ (k : Khin). alignedWith (a .args .keys .now) (nearestOf (a .args .keys .now) (candidatesOf (a .args .tone) k (withoutKhin u)))) (khin .ensures ∙ ap khinOf e ∙ khin-points u)
+    c .aligned-keys .ensures (nearestOf (a .keys .now) (candidatesOf (a .tone) (khin .result) (withoutKhin u))) (nearest-tone (a .keys .now) (a .tone) (khin .result) (withoutKhin u))
+    (c .before .nearest-prefix .ensures .shared (withoutKhin u) (c .before .before .strip-khin .ensures ∙ ap afterKhin e ∙ after-points u))
+    ∙ ap (λ (k : Khin). alignedWith (a .keys .now) (nearestOf (a .keys .now) (candidatesOf (a .tone) k (withoutKhin u)))) (khin .ensures ∙ ap khinOf e ∙ khin-points u)
 
 pub align-stripped-spec : {M : Type 1} → statement M
 align-stripped-spec =
@@ -43,5 +40,4 @@ align-stripped-spec =
     strip-khin-requires
     nearest-prefix-requires
     aligned-keys-requires
-    same-length
     returns)

@@ -8,14 +8,14 @@ use native.Mathlib.Omega.{arith}
 use Rattle.khiin_records.proofs.alignment.from_conversion_alignment.Statement.{statement}
 use Rattle.khiin_records.proofs.alignment.from_conversion_alignment.Tie as tie
 
-returns : tie.Need-returns
-returns c = let a = c .before .before .before .before .args in align-keys-refused unicode16 (a .keys .now) (a .target .now) (a .out .now) TooLong (keys-long (a .keys .now) (c .if1 .taken))
-
 is-ascii-requires : tie.Need-is-ascii-requires
 is-ascii-requires c κs = search needs
 
 align-requires : tie.Need-align-requires
 align-requires c κs = sym (c .before .before .is-ascii .ensures) ∙ c .before .if2 .taken
+
+returns : tie.Need-returns
+returns c = let a = c .before .before .before .before .args in align-keys-refused unicode16 (a .keys .now) (a .target .now) (a .out .now) TooLong (keys-long (a .keys .now) (c .if1 .taken))
 
 same-length : tie.Need-same-length
 same-length c = search needs
@@ -35,4 +35,4 @@ returns-3 c =
 
 pub from-conversion-alignment-spec : {M : Type 1} → statement M
 from-conversion-alignment-spec =
-    tie.close (tie.spec returns is-ascii-requires align-requires same-length returns-2 returns-3)
+    tie.close (tie.spec is-ascii-requires align-requires returns same-length returns-2 returns-3)
