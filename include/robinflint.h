@@ -44,8 +44,9 @@ rf_reply rf_strip(const uint8_t *text, size_t text_len, uint8_t *out, size_t out
 /* Where the tone letter of the text, as it is given, stands: length 1 and position, or length 0. Refuses with 2, 3, 4. */
 rf_reply rf_tone_letter(const uint8_t *text, size_t text_len);
 
-/* The longest raw inputs of rf_from_raw (256 keys) and, as far as is known, of rf_candidate (the text U+01D9, 128 times), in bytes. */
+/* The longest raw inputs of rf_from_raw and rf_align (256 keys) and, as far as is known, of rf_candidate (the text U+01D9, 128 times), in bytes. */
 #define RF_FROM_RAW_ROOM 256
+#define RF_ALIGN_ROOM 256
 #define RF_CANDIDATE_ROOM 641
 
 /* The record of raw keys, which have to be ASCII: the raw input in `out`, length, body, tone, khin. Refuses with 2, 4, 7. */
@@ -54,6 +55,10 @@ rf_reply rf_from_raw(const uint8_t *keys, size_t keys_len, uint8_t *out, size_t 
 /* One of the records that a composed syllable may be typed as, by its position, counted from 0: the raw input in `out`, length, body, tone, khin,
  * and as count how many there are, 1 or 2. Refuses with 2, 3, 4, 6, 7. */
 rf_reply rf_candidate(const uint8_t *text, size_t text_len, uint64_t position, uint8_t *out, size_t out_len);
+
+/* The keys that were typed for the syllable `target`, from the first on: their record, as rf_from_raw gives it. Length 0 is "no alignment", and every other
+ * field is then 0. The keys, which have to be ASCII, are checked before the target: refuses with 2, 4 for the keys, 2, 3, 4 for the target, 7. */
+rf_reply rf_align(const uint8_t *keys, size_t keys_len, const uint8_t *target, size_t target_len, uint8_t *out, size_t out_len);
 
 /* The longest outputs of rf_compose, rf_keying and rf_telex that are known, in bytes: found by search and tested, not proved. A longer one would be
  * refused with 7. */

@@ -13,7 +13,8 @@ use Rattle.ji.specs.declared.tone.Tone.the-variants.{None, T1, T2, T4, T8}
 use Rattle.ji.specs.declared.lomaji.khin.Khin.{Khin}
 use Rattle.ji.specs.declared.lomaji.khin.Khin.the-variants.{No, Yes}
 use Rattle.khiin_records.specs.Syllable.{Syllable, keyTone, fromRaw, fromComposed}
-use Rattle.examples.specs.Records.{Raw, fromKeys, Composed, candidates}
+use Rattle.khiin_records.specs.Alignment.{sharedPrefix, longer, nearest, grows, alignedWith, aligned}
+use Rattle.examples.specs.Records.{Raw, fromKeys, Composed, candidates, Aligned, alignments}
 
 abbrev RawRight : List Raw → Type 0
 RawRight [] = Unit {0}
@@ -21,7 +22,7 @@ RawRight (e ∷ es) = (fromRaw (e .0) ≡ record { body = e .1; keys = e .2; ton
 
 raw-right : RawRight fromKeys
 unfolding fromRaw keyTone last butLast
-raw-right = (refl, (refl, (refl, (refl, (refl, tt)))))
+raw-right = (refl, (refl, (refl, (refl, (refl, (refl, tt))))))
 
 abbrev records : Tone → Khin → List (List ℕ × List ℕ) → List Syllable
 records tone khin [] = []
@@ -34,3 +35,11 @@ ComposedRight (e ∷ es) = (fromComposed unicode16 (e .0) ≡ records (e .2) (e 
 composed-right : ComposedRight candidates
 unfolding same mappingIn classIn decomposition combiningClass pass passes full unicode16 mappings16 classes16 listed lower begins replaceFrom replaceAll bytesOf encode reorderable insert order nfd markTone isToneMark withoutMarks droppedMarks lastTone endsIn unmarkedTone stripped withoutKhin khinIn fromComposed
 composed-right = (refl, (refl, (refl, (refl, (refl, (refl, (refl, tt)))))))
+
+abbrev AlignedRight : List Aligned → Type 0
+AlignedRight [] = Unit {0}
+AlignedRight (e ∷ es) = (aligned unicode16 (e .0) (e .1) ≡ e .2) × AlignedRight es
+
+aligned-right : AlignedRight alignments
+unfolding same mappingIn classIn decomposition combiningClass pass passes full unicode16 mappings16 classes16 listed lower begins replaceFrom replaceAll bytesOf encode reorderable insert order nfd markTone isToneMark withoutMarks droppedMarks lastTone endsIn unmarkedTone stripped withoutKhin khinIn fromComposed sharedPrefix longer nearest grows alignedWith aligned
+aligned-right = (refl, (refl, (refl, (refl, (refl, (refl, (refl, (refl, (refl, (refl, tt))))))))))

@@ -18,6 +18,25 @@ fromKeys =
     ∷ (points "a0", points "a0", [], None)
     ∷ (points "2", [], points "2", T2)
     ∷ (points "a1i1", points "a1i", points "1", T1)
+    ∷ (points "a1i", points "a1i", [], None)
+    ∷ []
+
+-- raw keys, the syllable that they are aligned with, and how many were typed for it
+abbrev pub Aligned : Type 0
+Aligned = List ℕ × List ℕ × ℕ
+
+abbrev pub alignments : List Aligned
+alignments =
+    (points "a1i1", points "a", 3)
+    ∷ (points "b", points "a", 0)
+    ∷ (points "ax1", points "a", 2)
+    ∷ (points "o11", marked "o" 0x0358, 2)
+    ∷ (points "a2x2", points "á", 3)
+    ∷ (points "--a2", points "--á", 0)
+    ∷ (points "1", [], 0)
+    ∷ (points "HOAN2", points "hoán", 5)
+    ∷ (points "ou2", marked "ó" 0x0358, 3)
+    ∷ (points "oo2", marked "ó" 0x0358, 3)
     ∷ []
 
 -- composed syllables, and the body and the keys of each candidate, with tone and khin of all

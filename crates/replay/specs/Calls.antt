@@ -11,6 +11,7 @@ use Rattle.ji.specs.Nfc.{nfc}
 use Rattle.ji.specs.Lomaji.Strip.{stripCall}
 use Rattle.ji.specs.Lomaji.ToneLetter.{toneLetterCall, hasToneLetterCall}
 use Rattle.khiin_records.specs.Syllable.{fromRawCall, candidateCall}
+use Rattle.khiin_records.specs.Alignment.{alignCall}
 use Rattle.robinflint.specs.Arguments.{composeNumbered, keyingNumbered, telexNumbered}
 use Rattle.workbench.specs.Khin.{khinCall}
 use Rattle.workbench.specs.Keys.{keysCall}
@@ -47,7 +48,7 @@ syllableAnswer h text other buffer =
     (pickReply (eqb (h .call) 8) (composeNumbered text other (h .first) (h .second) buffer)
     (pickReply (eqb (h .call) 9) (candidateCall unicode16 text (h .asked) buffer)
     (pickReply (eqb (h .call) 10) (keyingNumbered text (h .first) (h .asked) buffer)
-    (telexNumbered text (h .second) (h .first) (sevenOf other) buffer))))
+    (pickReply (eqb (h .call) 11) (telexNumbered text (h .second) (h .first) (sevenOf other) buffer) (alignCall unicode16 text other buffer)))))
 
 -- of replies, one for each call up to 6 in the order of their numbers and one for the others, that of the call n
 unfoldable pub choose : ℕ → Reply → Reply → Reply → Reply → Reply → Reply → Reply → Reply → Reply

@@ -42,7 +42,7 @@ headerOf s =
 
 -- the calls that there are
 abbrev pub known : ℕ → Bool
-known call = leb call 11
+known call = leb call 12
 
 -- there is such a call, and no length is above 3,072
 abbrev pub replayable : Header → Bool

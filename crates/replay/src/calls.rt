@@ -36,10 +36,11 @@ fn answer_of_syllables(h: Header, text: &[u8], other: &[u8], out: &mut [u8]) -> 
         8 => robinflint::rf_compose(text, other, h.first as u64, h.second as u64, out),
         9 => robinflint::rf_candidate(text, h.asked, out),
         10 => robinflint::rf_keying(text, h.first as u64, h.asked, out),
-        _ => {
+        11 => {
             let keys = seven(other);
             robinflint::rf_telex(text, h.second as u64, h.first as u64, &keys, out)
         }
+        _ => robinflint::rf_align(text, other, out),
     }
 }
 

@@ -1,4 +1,4 @@
-// Replays fixed lists, which standard input holds: the Rust's answers to the calls of `ji`, then the rows of NormalizationTest.txt. Each record of a
+// Replays fixed lists, which standard input holds: the Rust's answers to the calls, then the rows of NormalizationTest.txt. Each record of a
 // list is a call and the reply to it. Prints a line for each call: how many records there were, and how many replies differed.
 mod calls;
 mod expected;

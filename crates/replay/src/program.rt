@@ -20,8 +20,8 @@ enum Outcome {
 
 // By the call's number, how many records there were, and how many of them differed; and 1 where the list did not come to its end.
 struct Tally {
-    records: [u64; 12],
-    different: [u64; 12],
+    records: [u64; 13],
+    different: [u64; 13],
     malformed: u64,
 }
 
@@ -67,7 +67,7 @@ fn one_more(n: u64) -> u64 {
 // Counts a record, and a difference.
 fn counted(mut t: Tally, call: u8, difference: bool) -> Tally {
     let i = call as usize;
-    if i < 12 {
+    if i < 13 {
         t.records[i] = one_more(t.records[i]);
         if difference {
             t.different[i] = one_more(t.different[i]);
@@ -80,8 +80,8 @@ fn counted(mut t: Tally, call: u8, difference: bool) -> Tally {
 
 fn replay_all() -> Tally {
     let mut t = Tally {
-        records: [0; 12],
-        different: [0; 12],
+        records: [0; 13],
+        different: [0; 13],
         malformed: 0,
     };
     // A proved loop has to end, and nothing says that the input does. So the loop counts its turns down, from a number that no run uses up.
@@ -124,6 +124,7 @@ pub(crate) fn run() {
     print_line(b"candidate", all[9], different[9]);
     print_line(b"keying", all[10], different[10]);
     print_line(b"telex", all[11], different[11]);
+    print_line(b"align", all[12], different[12]);
     io::write_all(1, b"malformed ");
     io::print_decimal(1, t.malformed);
     io::write_all(1, b"\n");

@@ -68,5 +68,5 @@ pub(crate) fn read(s: &[u8; 36]) -> Header
 pub(crate) fn is_replayable(h: Header) -> bool
     ensures { λ r. ⌜ r ≡ replayable h ⌝ }
 {
-    (h.call <= 11) & (h.input <= MOST) & (h.other <= MOST) & (h.lent <= MOST) & (h.wanted <= MOST)
+    (h.call <= 12) & (h.input <= MOST) & (h.other <= MOST) & (h.lent <= MOST) & (h.wanted <= MOST)
 }

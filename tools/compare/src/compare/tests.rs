@@ -119,7 +119,7 @@ fn swap(out: &mut [u8], reply: Reply, from: &[u8], to: &[u8]) -> Reply {
 
 #[test]
 fn every_fault_of_khiin_is_found() {
-    let faults: [(&str, Fault); 16] = [
+    let faults: [(&str, Fault); 20] = [
         ("from_raw: 0 as a tone", |question, _, r| {
             let zero = is(question, 7) && question.text.ends_with(b"0") && r.code == 0;
             Reply { body: r.body - zero as u64, ..r }
@@ -195,6 +195,27 @@ fn every_fault_of_khiin_is_found() {
             } else {
                 r
             }
+        }),
+        ("align: the target's fault first", |question, _, r| {
+            let wrong = is(question, 12) && r.code == 4 && question.second.len() > 256;
+            Reply { code: if wrong { 2 } else { r.code }, ..r }
+        }),
+        ("align: none, whatever is shared", |question, _, r| {
+            if is(question, 12) && r.code == 0 {
+                Reply::default()
+            } else {
+                r
+            }
+        }),
+        ("align: never grown", |question, _, r| match question.text {
+            [b'a', _, b'1'] if is(question, 12) && r.length == 2 => {
+                Reply { length: 1, body: 1, tone: 0, ..r }
+            }
+            _ => r,
+        }),
+        ("align: the second candidate not tried", |question, _, r| match question.text {
+            [b'o', b'o'] if is(question, 12) && r.length == 2 => Reply { length: 1, body: 1, ..r },
+            _ => r,
         }),
         ("listing: the position not moved on", |question, _, r| match question.call {
             Call::Listing { from } => Reply { position: from, ..r },

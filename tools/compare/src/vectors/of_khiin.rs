@@ -577,20 +577,20 @@ fn align_short(lists: &mut Lists) {
     }
 }
 
-/// One in sixteen of the well-formed syllables, with keys as they may be typed.
+/// One in thirty-one of the well-formed syllables, so that every tone and case is met, with keys as they may be typed.
 fn align_syllables(lists: &mut Lists, maker: &mut Maker) {
     let mut count = 0;
     inputs::syllables(&mut |text| {
         count += 1;
-        if count % 16 != 1 {
+        if count % 31 != 1 {
             return;
         }
-        let khin = ["", "", "--", "\u{b7}"][count / 16 % 4];
+        let khin = ["", "", "--", "\u{b7}"][count / 31 % 4];
         let target = [khin.as_bytes(), text].concat();
         for record in oracle::candidates(std::str::from_utf8(&target).unwrap()) {
             lists.exact(both(&record.out, &target));
             let typed = inputs::typed_keys(&record.out, maker);
-            lists.with_rooms(both(&typed[count / 16 % typed.len()], &target));
+            lists.with_rooms(both(&typed[count / 31 % typed.len()], &target));
         }
     });
 }

@@ -38,6 +38,9 @@ cast-rf-telex-2 c = search needs
 rf-telex-requires : tie.Need-rf-telex-requires
 rf-telex-requires c κs = search needs
 
+rf-align-requires : tie.Need-rf-align-requires
+rf-align-requires c κs = search needs
+
 same-length : tie.Need-same-length
 same-length c = search needs
 
@@ -72,8 +75,16 @@ same-length-5 c = search needs
 returns-5 : tie.Need-returns-5
 unfolding syllableAnswer
 returns-5 c =
-    let rest = c .before .before .before .before .before .before .before .before .match .rest in
-    rw (ne-eqb _ _ (rest .0 .0 .0 .1), ne-eqb _ _ (rest .0 .0 .1), ne-eqb _ _ (rest .0 .1), ne-eqb _ _ (rest .1), ← c .before .before .before .before .before .before .before .seven .ensures, c .before .before .rf-telex .ensures)
+    rw (c .before .before .before .before .before .before .before .before .match .keys5, ← c .before .before .before .before .before .before .before .seven .ensures, c .before .before .rf-telex .ensures)
+
+same-length-6 : tie.Need-same-length-6
+same-length-6 c = search needs
+
+returns-6 : tie.Need-returns-6
+unfolding syllableAnswer
+returns-6 c =
+    let rest = c .before .before .before .before .match .rest in
+    rw (ne-eqb _ _ (rest .0 .0 .0 .0 .1), ne-eqb _ _ (rest .0 .0 .0 .1), ne-eqb _ _ (rest .0 .0 .1), ne-eqb _ _ (rest .0 .1), ne-eqb _ _ (rest .1), c .before .before .rf-align .ensures)
 
 pub answer-of-syllables-spec : {M : Type 1} → statement M
 answer-of-syllables-spec =
@@ -90,6 +101,7 @@ answer-of-syllables-spec =
     cast-rf-telex
     cast-rf-telex-2
     rf-telex-requires
+    rf-align-requires
     same-length
     returns
     same-length-2
@@ -99,4 +111,6 @@ answer-of-syllables-spec =
     same-length-4
     returns-4
     same-length-5
-    returns-5)
+    returns-5
+    same-length-6
+    returns-6)
