@@ -47,17 +47,17 @@ module _ (keys s : List ℕ) (i : ℕ) (more : i < length keys) (some : i < leng
   unfolding sharedPrefix
   at-place = ap₂ sharedPrefix (drop-next keys i more) (drop-next s i some)
 
-  pub prefix-more : lower (getD keys i 0) ≡ lower (getD s i 0) → sharedPrefix (drop i keys) (drop i s) ≡ suc (sharedPrefix (drop (i + 1) keys) (drop (i + 1) s))
-  prefix-more e = at-place ∙ number-yes _ _ _ (eq-eqb _ _ e)
+  pub prefix-more : eqb (lower (getD keys i 0)) (lower (getD s i 0)) ≡ true → sharedPrefix (drop i keys) (drop i s) ≡ suc (sharedPrefix (drop (i + 1) keys) (drop (i + 1) s))
+  prefix-more e = at-place ∙ number-yes _ _ _ e
 
-  pub prefix-less : (lower (getD keys i 0) ≡ lower (getD s i 0) → ⊥) → sharedPrefix (drop i keys) (drop i s) ≡ 0
-  prefix-less n = at-place ∙ number-no _ _ _ (ne-eqb _ _ n)
+  pub prefix-less : eqb (lower (getD keys i 0)) (lower (getD s i 0)) ≡ false → sharedPrefix (drop i keys) (drop i s) ≡ 0
+  prefix-less e = at-place ∙ number-no _ _ _ e
 
 without-keys : (s : List ℕ) → sharedPrefix [] s ≡ 0
 unfolding sharedPrefix
 without-keys s = refl
 
-with-nothing : (keys : List ℕ) → sharedPrefix keys [] ≡ 0
+pub with-nothing : (keys : List ℕ) → sharedPrefix keys [] ≡ 0
 unfolding sharedPrefix
 with-nothing [] = refl
 with-nothing (k ∷ keys) = refl
@@ -67,6 +67,12 @@ prefix-keys-end keys s i h = ap (λ (l : List ℕ). sharedPrefix l s) (drop-of-l
 
 pub prefix-text-end : (keys s : List ℕ) (i : ℕ) → length s ≤ i → sharedPrefix keys (drop i s) ≡ 0
 prefix-text-end keys s i h = ap (sharedPrefix keys) (drop-of-length-le s h) ∙ with-nothing keys
+
+-- the first byte of a raw input
+pub prefix-first : (keys : List ℕ) (i x : ℕ) (s : List ℕ) → i < length keys
+    → sharedPrefix (drop i keys) (x ∷ s) ≡ pickNumber (eqb (lower (getD keys i 0)) (lower x)) (suc (sharedPrefix (drop (i + 1) keys) s)) 0
+unfolding sharedPrefix
+prefix-first keys i x s more = ap (λ (l : List ℕ). sharedPrefix l (x ∷ s)) (drop-next keys i more)
 
 pub prefix-fits : (keys s : List ℕ) → sharedPrefix keys s ≤ length keys
 unfolding sharedPrefix
@@ -246,6 +252,15 @@ module _ (s : List ℕ) (plain : allAscii s ≡ true) where
 -- ── how many keys are aligned
 digit-one : (t : Tone) → isTone t ≡ true → toneDigit t ≡ (point "0" + toneNumber t) ∷ []
 digit-one t e = text-yes (isTone t) ((point "0" + toneNumber t) ∷ []) [] e
+
+-- the keys behind a body, where it is known whether the first of them is shared
+pub digits-first : (keys : List ℕ) (at : ℕ) (t : Tone) (k : Khin) → isTone t ≡ true → (x : ℕ) → x ≡ point "0" + toneNumber t → (b : Bool)
+    → ((s : List ℕ) → sharedPrefix (drop at keys) (x ∷ s) ≡ pickNumber b (suc (sharedPrefix (drop (at + 1) keys) s)) 0)
+    → sharedPrefix (drop at keys) (toneDigit t ++ khinKey k) ≡ pickNumber b (suc (sharedPrefix (drop (at + 1) keys) (khinKey k))) 0
+digits-first keys at t k some x is b f =
+    ap (λ (l : List ℕ). sharedPrefix (drop at keys) (l ++ khinKey k)) (digit-one t some)
+    ∙ ap (λ (y : ℕ). sharedPrefix (drop at keys) (y ∷ khinKey k)) (sym is)
+    ∙ f (khinKey k)
 
 -- whether the key at a place is the tone's digit, past the keys' end and before it
 module _ (keys : List ℕ) (n : ℕ) (t : Tone) (some : isTone t ≡ true) where

@@ -15,11 +15,11 @@ use ji::tone;
 use ji::tone::Tone;
 ghost use mathlib.Core.Path.{_≡_};
 ghost use mathlib.Core.Bool.{true};
-ghost use mathlib.Core.List.{List, _++_};
-ghost use Prim.Native.Nat.{ℕ, _+_, _*_, _≤_, _<_};
-ghost use lib.Dec.{leb};
+ghost use mathlib.Core.List.{List, _∷_, _++_};
+ghost use Prim.Native.Nat.{ℕ, suc, _+_, _*_, _≤_, _<_};
+ghost use lib.Dec.{leb, eqb};
 ghost use lib.ListN.{length, take, drop};
-ghost use Rattle.ji.specs.Unicode.{unicode16, same};
+ghost use Rattle.ji.specs.Unicode.{unicode16, pickNumber, same};
 ghost use Rattle.ji.specs.Utf8.{encode};
 ghost use Rattle.ji.specs.Text.{allAscii, lower as lowerOf};
 ghost use Rattle.ji.specs.Tone.{isTone};
@@ -43,6 +43,16 @@ fn lower(x: u8) -> u8
     x + 32
 }
 
+// Whether two bytes are the same, ASCII case ignored. Most that are compared are the very same.
+fn same_key(a: u8, b: u8) -> bool
+    ensures { λ r. ⌜ r ≡ eqb (lowerOf a) (lowerOf b) ⌝ }
+{
+    if a == b {
+        return true;
+    }
+    lower(a) == lower(b)
+}
+
 // How many keys the keys and a raw input share at their beginning, ASCII case ignored.
 fn shared_prefix(keys: &[u8], s: &[u8]) -> usize
     ensures { λ r. ⌜ r ≡ sharedPrefix (now (keys .entry)) (now (s .entry)) ⌝ }
@@ -52,10 +62,11 @@ fn shared_prefix(keys: &[u8], s: &[u8]) -> usize
         if s.len() <= i {
             return i;
         }
-        if lower(keys[i]) != lower(s[i]) {
+        if same_key(keys[i], s[i]) {
+            i += 1;
+        } else {
             return i;
         }
-        i += 1;
     }
     i
 }
@@ -118,6 +129,38 @@ fn spelled_long(keys: &[u8], s: &[u8], tone: Tone, khin: Khin) -> usize
     spelled_prefix(keys, s, tone, khin, &mut letters)
 }
 
+// Whether the key at `at` is the byte `x` of a raw input: whether the prefix goes on there.
+fn is_key_at(keys: &[u8], at: usize, x: u8) -> bool
+    ensures { λ r. ⌜ ((s : List ℕ) → sharedPrefix (drop at (now (keys .entry))) (x ∷ s) ≡ pickNumber r (suc (sharedPrefix (drop (at + 1) (now (keys .entry))) s)) 0) ⌝ }
+{
+    if at < keys.len() {
+        return same_key(keys[at], x);
+    }
+    false
+}
+
+// How many of the keys from `at` on are shared with the 0 for khin.
+fn khin_prefix(keys: &[u8], at: usize, khin: Khin) -> usize
+    ensures { λ r. ⌜ (r ≡ sharedPrefix (drop at (now (keys .entry))) (khinKey khin)) × (r ≤ 1) ⌝ }
+{
+    match khin {
+        Khin::No => 0,
+        Khin::Yes => { if is_key_at(keys, at, 48) { 1 } else { 0 } }
+    }
+}
+
+// How many of the keys from `at` on are shared with the tone digit and the 0 for khin.
+fn digits_prefix(keys: &[u8], at: usize, tone: Tone, khin: Khin) -> usize
+    requires { ⌜ (isTone tone ≡ true) × (at ≤ length (now keys)) ⌝ }
+    ensures { λ r. ⌜ r ≡ sharedPrefix (drop at (now (keys .entry))) (toneDigit tone ++ khinKey khin) ⌝ }
+{
+    if is_key_at(keys, at, 48 + tone::number(tone) as u8) {
+        1 + khin_prefix(keys, at + 1, khin)
+    } else {
+        0
+    }
+}
+
 // The same of an ASCII text, which is the body of its one candidate: nothing is spelled, and nothing copied.
 fn plain_prefix(keys: &[u8], s: &[u8], tone: Tone, khin: Khin) -> usize
     requires { ⌜ (isTone tone ≡ true) × (allAscii (now keys) ≡ true) × (allAscii (now s) ≡ true) ⌝ }
@@ -127,9 +170,7 @@ fn plain_prefix(keys: &[u8], s: &[u8], tone: Tone, khin: Khin) -> usize
     if body < s.len() {
         return body;
     }
-    let mut behind = [0u8; 2];
-    let n = put_keys(tone, khin, &mut behind, 0);
-    body + shared_prefix(&keys[body..], &behind[0..n])
+    body + digits_prefix(keys, body, tone, khin)
 }
 
 // The same of any text.

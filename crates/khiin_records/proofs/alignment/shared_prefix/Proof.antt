@@ -1,6 +1,6 @@
-use mathlib.Core.Path.{_≡_, refl, sym, ap, _∙_}
-use Prim.Native.Nat.{ℕ, _+_, _-_, _≤_, _<_}
-use lib.ListN.{length, drop, getD}
+use mathlib.Core.Path.{_≡_, sym, _∙_}
+use Prim.Native.Nat.{_+_, _-_, _≤_}
+use lib.ListN.{length, drop}
 use Rattle.khiin_records.specs.Alignment.{sharedPrefix}
 use Rattle.khiin_records.proofs.Prefixes.{prefix-more, prefix-less, prefix-keys-end, prefix-text-end}
 use borrow.Author.Needs.{needs}
@@ -20,23 +20,14 @@ loop-holds c = omega arith
 returns : tie.Need-returns Inv-loop μ-loop
 returns c = let a = c .before .before .before .before .before .args in omega (arith, prefix-text-end (drop (c .before .before .loop .i) (a .keys .now)) (a .s .now) (c .before .before .loop .i) (c .if1 .taken))
 
-shared-slice-read-lower : tie.Need-shared-slice-read-lower Inv-loop μ-loop
-shared-slice-read-lower c = omega arith
+shared-slice-read-same-key : tie.Need-shared-slice-read-same-key Inv-loop μ-loop
+shared-slice-read-same-key c = omega arith
 
-lower-requires : tie.Need-lower-requires Inv-loop μ-loop
-lower-requires c κs = search needs
+shared-slice-read-same-key-2 : tie.Need-shared-slice-read-same-key-2 Inv-loop μ-loop
+shared-slice-read-same-key-2 c = omega arith
 
-shared-slice-read-lower-2 : tie.Need-shared-slice-read-lower-2 Inv-loop μ-loop
-shared-slice-read-lower-2 c = omega arith
-
-lower-requires-2 : tie.Need-lower-requires-2 Inv-loop μ-loop
-lower-requires-2 c κs = search needs
-
-returns-2 : tie.Need-returns-2 Inv-loop μ-loop
-returns-2 c =
-    let l = c .before .before .before .before .before .before .before in
-    let a = l .before .before .before .args in
-    omega (arith, prefix-less (a .keys .now) (a .s .now) (l .loop .i) (omega arith) (omega arith) (λ e. c .if2 .taken (c .before .before .before .lower .ensures ∙ e ∙ sym (c .before .lower2 .ensures))))
+same-key-requires : tie.Need-same-key-requires Inv-loop μ-loop
+same-key-requires c κs = search needs
 
 add-i : tie.Need-add-i Inv-loop μ-loop
 add-i c = omega arith
@@ -46,10 +37,15 @@ loop-less c = omega arith
 
 loop-again : tie.Need-loop-again Inv-loop μ-loop
 loop-again c =
-    let l = c .before .before .before .before .before .before .before in
+    let l = c .before .before .before .before .before .before in
     let a = l .before .before .before .args in
-    let e = prefix-more (a .keys .now) (a .s .now) (l .loop .i) (omega arith) (omega arith) (sym (c .before .before .before .lower .ensures) ∙ c .if2 .left ∙ c .before .lower2 .ensures) in
-    (omega arith, omega arith, omega (arith, e))
+    (omega arith, omega arith, omega (arith, prefix-more (a .keys .now) (a .s .now) (l .loop .i) (omega arith) (omega arith) (sym (c .before .same-key .ensures) ∙ c .if2 .taken)))
+
+returns-2 : tie.Need-returns-2 Inv-loop μ-loop
+returns-2 c =
+    let l = c .before .before .before .before .before .before in
+    let a = l .before .before .before .args in
+    omega (arith, prefix-less (a .keys .now) (a .s .now) (l .loop .i) (omega arith) (omega arith) (sym (c .before .same-key .ensures) ∙ c .if2 .left))
 
 returns-3 : tie.Need-returns-3 Inv-loop μ-loop
 returns-3 c = let a = c .before .before .before .before .args in omega (arith, prefix-keys-end (a .keys .now) (drop (c .before .loop .i) (a .s .now)) (c .before .loop .i) (c .loop-test .left))
@@ -62,12 +58,11 @@ shared-prefix-spec =
     μ-loop
     loop-holds
     returns
-    shared-slice-read-lower
-    lower-requires
-    shared-slice-read-lower-2
-    lower-requires-2
-    returns-2
+    shared-slice-read-same-key
+    shared-slice-read-same-key-2
+    same-key-requires
     add-i
     loop-less
     loop-again
+    returns-2
     returns-3)
