@@ -3,7 +3,7 @@
 use mathlib.Core.Path.{_≡_, refl, sym, ap, ap₂, _∙_}
 use mathlib.Core.Bool.{Bool, true, false, _&&_}
 use mathlib.Core.List.{List, [], _∷_, _++_, append-assoc, append-nil}
-use Prim.Native.Nat.{ℕ, suc, _+_, _/_, _≤_, _<_}
+use Prim.Native.Nat.{ℕ, suc, _+_, _≤_, _<_}
 use native.Mathlib.Decide.{decLe}
 use native.Mathlib.Omega.{arith}
 use borrow.Author.Tests.{eq-eqb, ne-eqb, eqb-true, eqb-false}
@@ -11,7 +11,7 @@ use lib.Dec.{leb, eqb}
 use lib.ListN.{length, take, drop, getD, drop-of-length-le}
 use lib.Seq.{paste}
 use Rattle.ji.specs.Unicode.{Table, pickNumber, same, listed}
-use Rattle.ji.specs.Text.{point, points, begins, within, lower, allAscii}
+use Rattle.ji.specs.Text.{point, begins, within, lower, allAscii}
 use Rattle.ji.specs.Utf8.{encode}
 use Rattle.ji.specs.Written.{Written}
 use Rattle.ji.specs.Tone.{toneNumber, isTone}
@@ -22,12 +22,12 @@ use Rattle.ji.specs.Lomaji.Khin.{withoutKhin, khinIn}
 use Rattle.ji.specs.declared.reply.Refusal.{Refusal}
 use Rattle.ji.specs.declared.tone.Tone.{Tone}
 use Rattle.ji.specs.declared.lomaji.khin.Khin.{Khin}
-use Rattle.ji.proofs.Bools.{either, false-true, and-no, and-yes, and-left, and-right, and-true, number-yes, number-no, text-yes, within-is}
+use Rattle.ji.proofs.Bools.{either, false-true, and-no, and-yes, and-true, number-yes, number-no, text-yes, within-is}
 use Rattle.ji.proofs.Writing.{written-run}
 use Rattle.ji.proofs.text.Laws.{drop-next}
 use Rattle.ji.proofs.lomaji.dot.Laws.{dot-listed}
 use Rattle.ji.proofs.unicode.Ascii.{ascii-low, ascii-rest}
-use Rattle.ji.proofs.unicode.Bytes.{bytes-one, bytes-two, bytes-three, bytes-four, encode-nil, encode-cons, same-cons}
+use Rattle.ji.proofs.unicode.Bytes.{bytes-one, bytes-two, bytes-three, bytes-four, encode-nil, encode-cons}
 use Rattle.khiin_records.specs.Syllable.{Syllable, raw, pickSyllable, default, toneDigit, khinKey, candidate, candidatesOf, fromComposed, fromRaw, placedRecord, checkKeys}
 use Rattle.khiin_records.specs.RawBytes.{Body, bodyFrom, bodyOf}
 use Rattle.khiin_records.specs.Alignment.{sharedPrefix, longer, nearest, nearestOf, grows, alignedWith, aligned, alignOf, alignCall}
@@ -101,7 +101,7 @@ prefix-through (k ∷ keys) [] b h = omega arith
 prefix-through (k ∷ keys) (c ∷ a) b h =
     either (eqb (lower k) (lower c))
     (λ e. let f = prefix-through keys a b (omega (arith, number-yes (eqb (lower k) (lower c)) (suc (sharedPrefix keys a)) 0 e)) in
-    rw (e) (omega (arith, f)))
+    rw e (omega (arith, f)))
     (λ e. absurd (omega (arith, number-no (eqb (lower k) (lower c)) (suc (sharedPrefix keys a)) 0 e)))
 
 -- ── over the bytes as over the code points: a byte above 7F, like a code point above it, is no key

@@ -1,6 +1,5 @@
 use mathlib.Core.Path.{_∙_}
 use borrow.Author.Needs.{needs}
-use native.Mathlib.Omega.{arith}
 use Rattle.robinflint.proofs.rf_align.Statement.{statement}
 use Rattle.robinflint.proofs.rf_align.Tie as tie
 

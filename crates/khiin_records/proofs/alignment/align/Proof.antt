@@ -9,7 +9,6 @@ use Rattle.khiin_records.specs.declared.Recorded.{Recorded}
 use Rattle.khiin_records.proofs.Candidates.{empty-good}
 use Rattle.khiin_records.proofs.Prefixes.{aligned-nothing, align-target-refused, align-target-good}
 use borrow.Author.Needs.{needs}
-use native.Mathlib.Omega.{arith}
 use Rattle.khiin_records.proofs.alignment.align.Statement.{statement}
 use Rattle.khiin_records.proofs.alignment.align.Tie as tie
 

@@ -1,6 +1,5 @@
 use mathlib.Core.Path.{ap, _∙_}
 use mathlib.Core.List.{_++_}
-use Prim.Native.Nat.{ℕ}
 use Rattle.ji.specs.Written.{Written}
 use Rattle.ji.proofs.Writing.{written-length}
 use Rattle.ji.proofs.Readings.{front}

@@ -1,4 +1,4 @@
-use mathlib.Core.Path.{_≡_, sym, ap, _∙_}
+use mathlib.Core.Path.{sym, _∙_}
 use Rattle.ji.specs.Unicode.{unicode16}
 use Rattle.ji.specs.declared.reply.Refusal.the-variants.{TooLong, OutsideTable}
 use Rattle.khiin_records.proofs.Records.{keys-long, keys-outside, keys-pass}

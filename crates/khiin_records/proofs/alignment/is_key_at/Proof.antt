@@ -7,7 +7,6 @@ use Rattle.ji.specs.Unicode.{pickNumber}
 use Rattle.khiin_records.specs.Alignment.{sharedPrefix}
 use Rattle.khiin_records.proofs.Prefixes.{prefix-first, prefix-keys-end}
 use borrow.Author.Needs.{needs}
-use native.Mathlib.Omega.{arith}
 use Rattle.khiin_records.proofs.alignment.is_key_at.Statement.{statement}
 use Rattle.khiin_records.proofs.alignment.is_key_at.Tie as tie
 

@@ -1,6 +1,5 @@
 use mathlib.Core.Path.{sym, _∙_}
 use borrow.Author.Needs.{needs}
-use native.Mathlib.Omega.{arith}
 use Rattle.khiin_records.proofs.alignment.nearest_prefix.Statement.{statement}
 use Rattle.khiin_records.proofs.alignment.nearest_prefix.Tie as tie
 

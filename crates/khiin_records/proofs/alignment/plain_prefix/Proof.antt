@@ -1,6 +1,4 @@
-use mathlib.Core.Path.{_≡_}
-use Prim.Native.Nat.{_+_, _≤_}
-use lib.ListN.{length}
+use Prim.Native.Nat.{_+_}
 use Rattle.khiin_records.specs.Prefixes.{NearestPrefix}
 use Rattle.khiin_records.proofs.Prefixes.{prefix-fits, near-within, near-through}
 use borrow.Author.Needs.{needs}

@@ -1,9 +1,8 @@
-use mathlib.Core.Path.{sym, ap, ap₂, _∙_}
+use mathlib.Core.Path.{sym, ap, ap₂}
 use borrow.Author.Tests.{eq-eqb}
 use lib.Dec.{eqb}
 use Rattle.ji.specs.Text.{lower}
 use borrow.Author.Needs.{needs}
-use native.Mathlib.Omega.{arith}
 use Rattle.khiin_records.proofs.alignment.same_key.Statement.{statement}
 use Rattle.khiin_records.proofs.alignment.same_key.Tie as tie
 

@@ -1,8 +1,7 @@
-use mathlib.Core.Path.{refl, sym, _∙_}
+use mathlib.Core.Path.{sym, _∙_}
 use mathlib.Core.Bool.{true, false}
 use Rattle.khiin_records.proofs.Prefixes.{prefix-fits, nearest-alone, nearest-of-two}
 use borrow.Author.Needs.{needs}
-use native.Mathlib.Omega.{arith}
 use Rattle.khiin_records.proofs.alignment.spelled_prefix.Statement.{statement}
 use Rattle.khiin_records.proofs.alignment.spelled_prefix.Tie as tie
 
