@@ -77,9 +77,7 @@ pub fn telex(text: &[u8], key: u64, mode: u64, tone_keys: &[u8; 7], out: &mut [u
 
 #[inline(always)]
 pub fn align(keys: &[u8], target: &[u8], out: &mut [u8]) -> Reply {
-    unsafe {
-        rf_align(keys.as_ptr(), keys.len(), target.as_ptr(), target.len(), out.as_mut_ptr(), out.len())
-    }
+    unsafe { rf_align(keys.as_ptr(), keys.len(), target.as_ptr(), target.len(), out.as_mut_ptr(), out.len()) }
 }
 
 /// Whether the archive has the listing.

@@ -565,7 +565,7 @@ fn align_short(run: &mut Run) {
             }
         });
     }
-    run.family("align: every keys of up to 4 out of 14, and 5 out of 7, with telling targets");
+    run.family("align: all keys of up to 4 out of 14, and 5 out of 7, with telling targets");
     let few: Vec<char> = "aoO\u{358}\u{301}\u{324}\u{207f}h-\u{b7}".chars().collect();
     for size in 0..=3 {
         inputs::tuples(&few, size, &mut |target| {
@@ -574,7 +574,7 @@ fn align_short(run: &mut Run) {
             }
         });
     }
-    run.family("align: every target of up to 3 out of 10, with every keys of up to 2 out of 12");
+    run.family("align: every target of up to 3 out of 10, with all keys of up to 2 out of 12");
     inputs::tuples(&rules::table(), 1, &mut |target| {
         for key in 0..=127 {
             align(run, &[key], target);
@@ -596,7 +596,9 @@ fn align_syllables(run: &mut Run, maker: &mut Maker) {
             }
         }
     });
-    run.family("align: every well-formed syllable with its keys, whole, cut, with another or a later digit, damaged");
+    run.family(
+        "align: every well-formed syllable with its keys, whole, cut, with another or a later digit, damaged",
+    );
 }
 
 fn align_random(run: &mut Run, maker: &mut Maker) {
@@ -646,5 +648,7 @@ fn align_at_bounds(run: &mut Run, maker: &mut Maker) {
             align(run, keys, target);
         }
     }
-    run.family("align: keys and targets of every length, the bounds, the faults of one with those of the other");
+    run.family(
+        "align: keys and targets of every length, the bounds, the faults of one with those of the other",
+    );
 }

@@ -577,7 +577,8 @@ fn align_short(lists: &mut Lists) {
     }
 }
 
-/// One in thirty-one of the well-formed syllables, so that every tone and case is met, with keys as they may be typed.
+/// One in thirty-one of the well-formed syllables, so that every tone and case is
+/// met, with keys as they may be typed.
 fn align_syllables(lists: &mut Lists, maker: &mut Maker) {
     let mut count = 0;
     inputs::syllables(&mut |text| {
