@@ -1,0 +1,1 @@
+// Well-formed syllables and entries of them, as definitions: this crate has no code.
