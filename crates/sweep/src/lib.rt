@@ -1,0 +1,1 @@
+// Tests of every well-formed syllable, computed: this crate has no code.
