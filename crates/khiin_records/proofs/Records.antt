@@ -24,7 +24,7 @@ use Rattle.ji.specs.declared.lomaji.khin.Khin.the-variants.{No, Yes}
 use Rattle.ji.proofs.Bools.{either, false-true, and-yes, and-left, and-right, text-yes, text-no}
 use Rattle.ji.proofs.Replies.{refusal-some}
 use Rattle.ji.proofs.unicode.Ascii.{ascii-bytes, ascii-take}
-use Rattle.ji.proofs.unicode.Bytes.{encode-append}
+use Rattle.ji.proofs.unicode.Bytes.{but-last, encode-append}
 use Rattle.khiin_records.specs.Syllable.{Syllable, raw, pickSyllable, toneDigits, keyTone, fromRaw, checkKeys, recorded, placedRecord, recordReply, toneDigit, khinKey, candidate, pickSyllables, candidatesOf, candidateIn}
 use Rattle.khiin_records.specs.Records.{RecordOf}
 use Rattle.khiin_records.specs.declared.Record.{Record}
@@ -109,13 +109,6 @@ pub toned-some : (s : List ℕ) → isTone (keyTone (last s)) ≡ true → 0 < l
 unfolding keyTone last
 toned-some [] h = absurd (false-true h)
 toned-some (x ∷ s) h = omega arith
-
-but-last : (s : List ℕ) → 0 < length s → butLast 1 s ++ (last s ∷ []) ≡ s
-unfolding butLast last
-but-last s h =
-    let n = length s - 1 in
-    let end : drop n s ≡ getD s n 0 ∷ [] = drop-cons s n 0 (omega arith) ∙ ap (λ (l : List ℕ). getD s n 0 ∷ l) (drop-of-length-le s {i = suc n} (omega arith)) in
-    ap (λ (l : List ℕ). take n s ++ l) (sym end) ∙ take-append-drop n s
 
 module _ (s : List ℕ) where
   -- the two cases of from_raw

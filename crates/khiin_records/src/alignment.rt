@@ -3,7 +3,6 @@ use crate::Recorded;
 use crate::from_composed::again;
 use crate::from_composed::put_keys;
 use crate::from_composed::spell;
-use crate::from_raw::is_ascii;
 use crate::from_raw::place_keys;
 use ji::lomaji::dot::holds_dot;
 use ji::lomaji::khin;
@@ -13,6 +12,7 @@ use ji::lomaji::strip::Strip;
 use ji::reply::Refusal;
 use ji::tone;
 use ji::tone::Tone;
+use ji::unicode;
 ghost use mathlib.Core.Path.{_≡_};
 ghost use mathlib.Core.Bool.{true};
 ghost use mathlib.Core.List.{List, _∷_, _++_};
@@ -178,7 +178,7 @@ fn nearest_prefix(keys: &[u8], s: &[u8], tone: Tone, khin: Khin) -> usize
     requires { ⌜ (isTone tone ≡ true) × (allAscii (now keys) ≡ true) × (length (now s) ≤ 640) ⌝ }
     ensures { λ r. ⌜ NearestPrefix (now (keys .entry)) (now (s .entry)) tone khin r ⌝ }
 {
-    if is_ascii(s) {
+    if unicode::is_ascii(s) {
         return plain_prefix(keys, s, tone, khin);
     }
     if s.len() <= 40 {
@@ -281,7 +281,7 @@ pub fn from_conversion_alignment(keys: &[u8], target: &[u8], out: &mut [u8]) -> 
 {
     if 256 < keys.len() {
         Recorded::Refused(Refusal::TooLong)
-    } else if is_ascii(keys) {
+    } else if unicode::is_ascii(keys) {
         align(keys, target, out)
     } else {
         Recorded::Refused(Refusal::OutsideTable)

@@ -7,6 +7,7 @@ use ji::reply::Refusal;
 use ji::reply::TextAnswer;
 use ji::tone;
 use ji::tone::Tone;
+use ji::unicode;
 use ji::unicode::ByteLen;
 ghost use mathlib.Core.Path.{_≡_};
 ghost use mathlib.Core.Bool.{true};
@@ -31,20 +32,6 @@ fn key_tone(key: u8) -> Tone
         b'9' => Tone::T9,
         _ => Tone::None,
     }
-}
-
-// Whether all bytes are ASCII.
-pub(crate) fn is_ascii(s: &[u8]) -> bool
-    ensures { λ r. ⌜ r ≡ allAscii (now (s .entry)) ⌝ }
-{
-    let mut i: usize = 0;
-    while i < s.len() {
-        if 0x7F < s[i] {
-            return false;
-        }
-        i += 1;
-    }
-    true
 }
 
 // The last key, and 0 where there is none.
@@ -99,7 +86,7 @@ pub fn from_raw(keys: &[u8], out: &mut [u8]) -> Recorded
     if 256 < keys.len() {
         return Recorded::Refused(Refusal::TooLong);
     }
-    if is_ascii(keys) {
+    if unicode::is_ascii(keys) {
         place_keys(keys, out)
     } else {
         Recorded::Refused(Refusal::OutsideTable)
