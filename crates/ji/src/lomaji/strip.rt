@@ -240,11 +240,14 @@ fn place_bytes(s: &[u8], last: Tone, out: &mut [u8]) -> Strip
     })
 }
 
-// Strips a text in one walk into a buffer of bytes, or else step by step.
+// Strips a text in one walk into a buffer of bytes, or else step by step. An ASCII text is its own NFD and has no mark.
 fn strip_by(text: &[u8], bytes: &mut [u8], out: &mut [u8]) -> Strip
     requires { ⌜ (length (now text) ≤ 256) × (length (now text) ≤ length (now bytes)) × (length (now bytes) ≤ 65536) ⌝ }
     ensures { λ r. ⌜ stripReply r (now (out .exit)) ≡ stripCall unicode16 (now (text .entry)) (now (out .entry)) ⌝ }
 {
+    if unicode::is_ascii(text) {
+        return place_bytes(text, Tone::None, out);
+    }
     match quick::walk(text, bytes) {
         Outcome::GivenUp => strip_slowly(text, out),
         Outcome::Whole(len, last) => {
@@ -271,15 +274,12 @@ fn strip_long(text: &[u8], out: &mut [u8]) -> Strip
     strip_by(text, &mut bytes, out)
 }
 
-// The text without its tone marks, in NFD, in `out`, and its tone. An ASCII text is its own NFD and has no mark.
+// The text without its tone marks, in NFD, in `out`, and its tone.
 pub fn strip_tone_diacritic(text: &[u8], out: &mut [u8]) -> Strip
     ensures { λ r. ⌜ stripReply r (now (out .exit)) ≡ stripCall unicode16 (now (text .entry)) (now (out .entry)) ⌝ }
 {
     if 256 < text.len() {
         return Strip::Refused(Refusal::TooLong);
-    }
-    if unicode::is_ascii(text) {
-        return place_bytes(text, Tone::None, out);
     }
     if text.len() <= 32 {
         return strip_short(text, out);
