@@ -3,12 +3,15 @@ use mathlib.Core.Path.{_≡_}
 use mathlib.Core.Bool.{Bool, true, false, not, _&&_, _||_}
 use mathlib.Core.List.{List, [], _∷_, _++_}
 use mathlib.Core.Option.{none, some}
-use Prim.Native.Nat.{ℕ, _+_, _-_, _≤_, _<_}
+use Prim.Native.Nat.{ℕ, zero, suc, _+_, _-_, _≤_, _<_}
 use lib.Dec.{ltb, eqb}
 use lib.ListN.{length, take, drop, getD}
 use Rattle.ji.specs.Unicode.{unicode16, listed, composite}
 use Rattle.ji.specs.Text.{points, marked, point, lower, begins}
 use Rattle.ji.specs.Lomaji.Keys.{respell}
+use Rattle.ji.specs.declared.reply.Refusal.the-variants.{NoRoom}
+use Rattle.ji.specs.declared.reply.TextAnswer.{TextAnswer}
+use Rattle.ji.specs.declared.reply.TextAnswer.the-variants.{Done, Refused}
 use Rattle.khiin.specs.Syllable.{vowelRules, oRules, nasalised, moved}
 use Rattle.khiin.specs.declared.syllable.marking.Mark.{Mark}
 use Rattle.khiin.specs.declared.syllable.marking.Mark.the-variants.{Nothing, Point}
@@ -18,6 +21,11 @@ use Rattle.khiin.specs.declared.syllable.compose.Settled.{Settled}
 pub record Front (buffer : List ℕ) (n : ℕ) (s : List ℕ) : Type 0 where
   pub is : take n buffer ≡ s
   pub size : length s ≡ n
+
+-- the answer that a number stands for: one more than the length of the text that was written, or 0 where there was no room
+abbrev pub answerOf : ℕ → TextAnswer
+answerOf zero = Refused NoRoom
+answerOf (suc n) = Done (record { 0 = n })
 
 -- a mark as the code has it
 abbrev pub markText : Mark → List ℕ

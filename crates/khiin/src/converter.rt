@@ -1,6 +1,7 @@
 // The telex step: `convert_to_telex`, its text only.
 use crate::syllable::compose::compose_points;
 use crate::syllable::compose::lower;
+use crate::syllable::marking::answer;
 use ji::lomaji::khin::Khin;
 use ji::lomaji::strip;
 use ji::lomaji::strip::Strip;
@@ -415,7 +416,7 @@ fn compose_step(
     let body = typed(k, key, tone, &points[0..m], n, grown_len(key, n));
     let count = body.len;
     let spoken = body.tone;
-    compose_points(raw, points, count, spoken, Khin::No, out)
+    answer(compose_points(raw, points, count, spoken, Khin::No, out))
 }
 
 // Reads the stripped text, the first `n` of `bytes`, into `points`, and composes it anew.

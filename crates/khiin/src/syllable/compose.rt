@@ -1,5 +1,6 @@
 // `compose`: the text of a syllable. The body is spelled by the rules, in place, the tone mark put to the tone letter, and the whole written in
 // compose's encoding. Most bodies have one pair of vowels at most, and a sign at their end only: for these each rule is one look.
+use crate::syllable::marking::answer;
 use crate::syllable::marking::insert_mark;
 use crate::syllable::marking::place_spelled;
 use ji::lomaji::khin::Khin;
@@ -22,7 +23,7 @@ ghost use Rattle.ji.specs.Written.{Written};
 ghost use Rattle.ji.specs.Reply.{placed, textReply, good, checkText};
 ghost use Rattle.ji.specs.Lomaji.Keys.{respell};
 ghost use Rattle.khiin.specs.Syllable.{vowelRules, nasalRules, oRules, endsNasal, nasalised, moved, spelled, khinText, compose, composeOf, composeCall};
-ghost use Rattle.khiin.specs.Compose.{Front, isPair, apartFrom, oPairs, ePairs, takesDot, NoPairIn, NoNasalBefore, NoSignBefore, settledBody, SettledAs, DotAt};
+ghost use Rattle.khiin.specs.Compose.{answerOf, Front, isPair, apartFrom, oPairs, ePairs, takesDot, NoPairIn, NoNasalBefore, NoSignBefore, settledBody, SettledAs, DotAt};
 
 // The signs of a nasal vowel, small and capital. No code point of the table below the first of them is one.
 const SMALL_SIGN: u16 = 0x207F;
@@ -546,9 +547,9 @@ fn write_whole(khin: Khin, s: &[u16], out: &mut [u16]) -> usize
 }
 
 // Writes the text of a body that is spelled but for the O rules, from a buffer with room for these and for khin.
-fn place_dotted(raw: &[u8], s: &[u16], tone: Tone, khin: Khin, out: &mut [u8]) -> TextAnswer
+fn place_dotted(raw: &[u8], s: &[u16], tone: Tone, khin: Khin, out: &mut [u8]) -> usize
     requires { ⌜ length (now s) ≤ 400 ⌝ }
-    ensures { λ r. ⌜ ((rawInput body : List ℕ) → now (raw .entry) ≡ encode rawInput → settledBody body ≡ now (s .entry) → textReply r (now (out .exit)) ≡ placed 0 (encode (compose unicode16 rawInput body tone khin)) (now (out .entry))) ⌝ }
+    ensures { λ r. ⌜ ((rawInput body : List ℕ) → now (raw .entry) ≡ encode rawInput → settledBody body ≡ now (s .entry) → textReply (answerOf r) (now (out .exit)) ≡ placed 0 (encode (compose unicode16 rawInput body tone khin)) (now (out .entry))) ⌝ }
 {
     let mut b = [0u16; 803];
     let n = write_whole(khin, s, &mut b);
@@ -563,9 +564,9 @@ fn place_settled(
     tone: Tone,
     khin: Khin,
     out: &mut [u8],
-) -> TextAnswer
+) -> usize
     requires { ⌜ (settled .len ≤ 400) × (settled .len + 1 < length (now s)) × (settled .lone ≡ true → NoSignBefore (take (settled .len) (now s))) ⌝ }
-    ensures { λ r. ⌜ ((rawInput body : List ℕ) → now (raw .entry) ≡ encode rawInput → settledBody body ≡ take (settled .len) (now (s .entry)) → textReply r (now (out .exit)) ≡ placed 0 (encode (compose unicode16 rawInput body tone khin)) (now (out .entry))) ⌝ }
+    ensures { λ r. ⌜ ((rawInput body : List ℕ) → now (raw .entry) ≡ encode rawInput → settledBody body ≡ take (settled .len) (now (s .entry)) → textReply (answerOf r) (now (out .exit)) ≡ placed 0 (encode (compose unicode16 rawInput body tone khin)) (now (out .entry))) ⌝ }
 {
     let n = settled.len;
     match khin {
@@ -588,9 +589,9 @@ pub(crate) fn compose_points(
     tone: Tone,
     khin: Khin,
     out: &mut [u8],
-) -> TextAnswer
+) -> usize
     requires { ⌜ (n ≤ 400) × (n + 1 < length (now s)) ⌝ }
-    ensures { λ r. ⌜ ((rawInput : List ℕ) → now (raw .entry) ≡ encode rawInput → textReply r (now (out .exit)) ≡ placed 0 (encode (compose unicode16 rawInput (take n (now (s .entry))) tone khin)) (now (out .entry))) ⌝ }
+    ensures { λ r. ⌜ ((rawInput : List ℕ) → now (raw .entry) ≡ encode rawInput → textReply (answerOf r) (now (out .exit)) ≡ placed 0 (encode (compose unicode16 rawInput (take n (now (s .entry))) tone khin)) (now (out .entry))) ⌝ }
 {
     let settled = settle(&mut s[0..n]);
     place_settled(raw, s, settled, tone, khin, out)
@@ -612,7 +613,7 @@ fn compose_body(
         Decoded::Refused(why) => TextAnswer::Refused(why),
         Decoded::Points(len) => {
             let n = len.0;
-            compose_points(raw, points, n, tone, khin, out)
+            answer(compose_points(raw, points, n, tone, khin, out))
         }
     }
 }

@@ -5,9 +5,11 @@ use ji::lomaji::tone_letter::tone_position;
 use ji::nfc::Normalised;
 use ji::nfc::normalise;
 use ji::reply;
+use ji::reply::Refusal;
 use ji::reply::TextAnswer;
 use ji::text::replace_pair;
 use ji::tone::Tone;
+use ji::unicode::ByteLen;
 ghost use mathlib.Core.Path.{_≡_};
 ghost use mathlib.Core.Bool.{true};
 ghost use mathlib.Core.List.{List, [], _∷_, _++_};
@@ -18,7 +20,7 @@ ghost use Rattle.ji.specs.Text.{points as pointsOf};
 ghost use Rattle.ji.specs.Utf8.{encode};
 ghost use Rattle.ji.specs.Reply.{placed, textReply};
 ghost use Rattle.khiin.specs.Syllable.{markOf, encoded, composedWith};
-ghost use Rattle.khiin.specs.Compose.{Front, markText, staysBehind, settledFrom, Joined, inserted};
+ghost use Rattle.khiin.specs.Compose.{Front, markText, answerOf, staysBehind, settledFrom, Joined, inserted};
 
 // What a tone adds.
 enum Mark {
@@ -267,19 +269,50 @@ fn encode_into(s: &[u16], out: &mut [u16]) -> usize
     }
 }
 
+// Writes the text `s` to `out`, and returns one more than its length in bytes, or 0 where there is no room. A number is passed on at no cost, and
+// the answer that it stands for is not.
+fn place(s: &[u16], out: &mut [u8]) -> usize
+    ensures { λ r. ⌜ textReply (answerOf r) (now (out .exit)) ≡ placed 0 (encode (now (s .entry))) (now (out .entry)) ⌝ }
+{
+    match reply::place(s, out) {
+        TextAnswer::Refused(_) => 0,
+        TextAnswer::Done(len) => len.0 + 1,
+    }
+}
+
+// The same of the bytes `s` of a text.
+fn place_bytes(s: &[u8], out: &mut [u8]) -> usize
+    ensures { λ r. ⌜ textReply (answerOf r) (now (out .exit)) ≡ placed 0 (now (s .entry)) (now (out .entry)) ⌝ }
+{
+    match reply::place_bytes(s, out) {
+        TextAnswer::Refused(_) => 0,
+        TextAnswer::Done(len) => len.0 + 1,
+    }
+}
+
+// The answer that such a number stands for.
+pub(crate) fn answer(size: usize) -> TextAnswer
+    ensures { λ r. ⌜ r ≡ answerOf size ⌝ }
+{
+    if size == 0 {
+        return TextAnswer::Refused(Refusal::NoRoom);
+    }
+    TextAnswer::Done(ByteLen(size - 1))
+}
+
 // Writes `s` in compose's encoding to `out`, from a buffer where it is put into that.
-fn place_normalised(s: &[u16], a: &mut [u16], out: &mut [u8]) -> TextAnswer
+fn place_normalised(s: &[u16], a: &mut [u16], out: &mut [u8]) -> usize
     requires { ⌜ 3 * length (now s) ≤ length (now a) ⌝ }
-    ensures { λ r. ⌜ textReply r (now (out .exit)) ≡ placed 0 (encode (encoded unicode16 (now (s .entry)))) (now (out .entry)) ⌝ }
+    ensures { λ r. ⌜ textReply (answerOf r) (now (out .exit)) ≡ placed 0 (encode (encoded unicode16 (now (s .entry)))) (now (out .entry)) ⌝ }
 {
     let n = encode_into(s, a);
-    reply::place(&a[0..n], out)
+    place(&a[0..n], out)
 }
 
 // The same in a buffer of its own. Short texts go in a small one, since clearing this is quicker.
-fn place_encoded(s: &[u16], out: &mut [u8]) -> TextAnswer
+fn place_encoded(s: &[u16], out: &mut [u8]) -> usize
     requires { ⌜ length (now s) ≤ 803 ⌝ }
-    ensures { λ r. ⌜ textReply r (now (out .exit)) ≡ placed 0 (encode (encoded unicode16 (now (s .entry)))) (now (out .entry)) ⌝ }
+    ensures { λ r. ⌜ textReply (answerOf r) (now (out .exit)) ≡ placed 0 (encode (encoded unicode16 (now (s .entry)))) (now (out .entry)) ⌝ }
 {
     if s.len() <= 24 {
         let mut a = [0u16; 72];
@@ -290,12 +323,12 @@ fn place_encoded(s: &[u16], out: &mut [u8]) -> TextAnswer
 }
 
 // Writes `s` in compose's encoding, without a mark.
-fn place_unmarked(s: &[u16], out: &mut [u8]) -> TextAnswer
+fn place_unmarked(s: &[u16], out: &mut [u8]) -> usize
     requires { ⌜ length (now s) ≤ 803 ⌝ }
-    ensures { λ r. ⌜ textReply r (now (out .exit)) ≡ placed 0 (encode (encoded unicode16 (now (s .entry)))) (now (out .entry)) ⌝ }
+    ensures { λ r. ⌜ textReply (answerOf r) (now (out .exit)) ≡ placed 0 (encode (encoded unicode16 (now (s .entry)))) (now (out .entry)) ⌝ }
 {
     if is_settled(s) {
-        return reply::place(s, out);
+        return place(s, out);
     }
     place_encoded(s, out)
 }
@@ -312,20 +345,20 @@ fn joined_at(s: &[u16], k: usize, mark: u16) -> u16
 }
 
 // Writes the first `n` code points of `s` with `mark` behind the letter at `k`.
-fn place_marked(s: &mut [u16], n: usize, k: usize, mark: u16, out: &mut [u8]) -> TextAnswer
+fn place_marked(s: &mut [u16], n: usize, k: usize, mark: u16, out: &mut [u8]) -> usize
     requires { ⌜ (k < n) × (n < length (now s)) × (n ≤ 802) ⌝ }
-    ensures { λ r. ⌜ textReply r (now (out .exit)) ≡ placed 0 (encode (encoded unicode16 (take (k + 1) (take n (now (s .entry))) ++ (mark ∷ drop (k + 1) (take n (now (s .entry))))))) (now (out .entry)) ⌝ }
+    ensures { λ r. ⌜ textReply (answerOf r) (now (out .exit)) ≡ placed 0 (encode (encoded unicode16 (take (k + 1) (take n (now (s .entry))) ++ (mark ∷ drop (k + 1) (take n (now (s .entry))))))) (now (out .entry)) ⌝ }
 {
     let c = joined_at(&s[0..n], k, mark);
     if 1 < c {
         s[k] = c;
-        return reply::place(&s[0..n], out);
+        return place(&s[0..n], out);
     }
     let m = n + 1;
     insert_mark(&mut s[0..m], k + 1, mark);
     if c == 1 {
         if mark == 0x030D {
-            return reply::place(&s[0..m], out);
+            return place(&s[0..m], out);
         }
     }
     place_encoded(&s[0..m], out)
@@ -339,14 +372,14 @@ pub(crate) fn place_spelled(
     n: usize,
     tone: Tone,
     out: &mut [u8],
-) -> TextAnswer
+) -> usize
     requires { ⌜ (n < length (now s)) × (n ≤ 802) ⌝ }
-    ensures { λ r. ⌜ ((rawInput : List ℕ) → now (raw .entry) ≡ encode rawInput → textReply r (now (out .exit)) ≡ placed 0 (encode (composedWith unicode16 rawInput (take n (now (s .entry))) (markOf tone))) (now (out .entry))) ⌝ }
+    ensures { λ r. ⌜ ((rawInput : List ℕ) → now (raw .entry) ≡ encode rawInput → textReply (answerOf r) (now (out .exit)) ≡ placed 0 (encode (composedWith unicode16 rawInput (take n (now (s .entry))) (markOf tone))) (now (out .entry))) ⌝ }
 {
     match mark_of(tone) {
         Mark::Nothing => place_unmarked(&s[0..n], out),
         Mark::Point(mark) => match tone_position(&s[0..n]) {
-            Place::Nowhere => reply::place_bytes(raw, out),
+            Place::Nowhere => place_bytes(raw, out),
             Place::At(place) => {
                 let k = place.0;
                 place_marked(s, n, k, mark, out)

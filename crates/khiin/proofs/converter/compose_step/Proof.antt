@@ -8,7 +8,7 @@ use lib.ListN.{length, take, set, length-set, length-append}
 use lib.Seq.{length-take-le, take-take, take-set-le, take-all}
 use Rattle.ji.specs.Unicode.{unicode16}
 use Rattle.ji.specs.Utf8.{encode}
-use Rattle.ji.specs.Reply.{placed}
+use Rattle.ji.specs.Reply.{placed, textReply}
 use Rattle.ji.specs.declared.tone.Tone.{Tone}
 use Rattle.ji.specs.declared.lomaji.khin.Khin.the-variants.{No}
 use Rattle.ji.proofs.Bools.{either, text-yes, text-no}
@@ -17,6 +17,7 @@ use Rattle.khiin.specs.Converter.{grown}
 use Rattle.khiin.specs.Telex.{composedOf}
 use Rattle.khiin.specs.declared.converter.ToneKeys.{ToneKeys}
 use Rattle.khiin.proofs.converter.Laws.{stored-key}
+use Rattle.ji.specs.declared.reply.TextAnswer.{TextAnswer}
 use borrow.Author.Needs.{needs}
 use native.Mathlib.Omega.{arith}
 use Rattle.khiin.proofs.converter.compose_step.Statement.{statement}
@@ -91,9 +92,12 @@ compose-points-requires c κs =
     let s = size (a .args .points .now) (a .args .n) (a .args .key) (a .pre .1) in
     (omega (arith, s, t .typed .ensures .0, a .pre .0), omega (arith, s, t .typed .ensures .0, a .pre .1, length-set (a .args .points .now) (a .args .n) (a .args .key)))
 
+answer-requires : tie.Need-answer-requires
+answer-requires c κs = search needs
+
 same-length : tie.Need-same-length
 same-length c =
-    let p = c .before .before .before .before in
+    let p = c .before .before .before .before .before in
     let a = p .before .before .before .before .before .before .before .before .before .before in
     p .compose-points .kept .1 .0 ∙ length-set (a .args .points .now) (a .args .n) (a .args .key)
 
@@ -102,11 +106,12 @@ same-length-2 c = search needs
 
 returns : tie.Need-returns
 returns c =
-    let p = c .before .before .before .before in
+    let p = c .before .before .before .before .before in
     let t = p .before .before .before in
     let g = t .before in
     let a = g .before .before .before .before .before .before in
-    p .compose-points .ensures _ (a .pre .2)
+    ap (λ (r : TextAnswer). textReply r (p .compose-points .last .1 .1 .1 .1 .1 .0)) (c .answer .ensures)
+    ∙ p .compose-points .ensures _ (a .pre .2)
     ∙ ap (λ (l : List ℕ). placed 0 (encode l) (a .args .out .now))
     (step-text (a .args .points .now) (a .args .n) (a .args .key) (a .pre .1) (a .args .k) (a .args .tone) _ _ _ (g .grown-len .ensures .0) (g .grown-len .ensures .1) (t .typed .ensures .0) (t .typed .ensures .1))
 
@@ -123,6 +128,7 @@ compose-step-spec =
     grown-len-requires
     typed-requires
     compose-points-requires
+    answer-requires
     same-length
     same-length-2
     returns)

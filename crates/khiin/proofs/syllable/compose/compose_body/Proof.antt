@@ -4,12 +4,13 @@ use mathlib.Core.List.{List}
 use Prim.Native.Nat.{ℕ, _≤_}
 use Rattle.ji.specs.Unicode.{unicode16}
 use Rattle.ji.specs.Utf8.{encode}
-use Rattle.ji.specs.Reply.{placed, Checked, good, checkText}
+use Rattle.ji.specs.Reply.{placed, Checked, good, checkText, textReply}
 use Rattle.ji.proofs.Writing.{written-length, written-take}
 use Rattle.ji.proofs.Replies.{check-within}
 use Rattle.ji.proofs.Readings.{told}
 use Rattle.khiin.specs.Syllable.{compose, composeOf}
 use Rattle.khiin.proofs.syllable.compose.Reading.{points-fewer, read}
+use Rattle.ji.specs.declared.reply.TextAnswer.{TextAnswer}
 use borrow.Author.Needs.{needs}
 use native.Mathlib.Omega.{arith}
 use Rattle.khiin.proofs.syllable.compose.compose_body.Statement.{statement}
@@ -32,6 +33,9 @@ compose-points-requires c κs =
     let h = read (a .args .body .now) (a .args .points .now) (r .points .last .1 .0) (a .pre .0) (a .pre .1) (l .len .given .1) (r .points .ensures) in
     (omega (arith, points-fewer (a .args .body .now) (h .0) (h .1), h .2 .size, a .pre .0), omega (arith, points-fewer (a .args .body .now) (h .0) (h .1), h .2 .size, written-length (h .2), a .pre .2))
 
+answer-requires : tie.Need-answer-requires
+answer-requires c κs = search needs
+
 same-length : tie.Need-same-length
 same-length c = search needs
 
@@ -53,12 +57,13 @@ same-length-3 c = search needs
 returns-2 : tie.Need-returns-2
 returns-2 c =
     λ rawInput e.
-    let p = c .before .before .before .before in
+    let p = c .before .before .before .before .before in
     let l = p .before .before .before .before in
     let r = l .before .before .before .before in
     let a = r .before .before .before .before .before .before in
     let h = read (a .args .body .now) (a .args .points .now) (r .points .last .1 .0) (a .pre .0) (a .pre .1) (l .len .given .1) (r .points .ensures) in
-    p .compose-points .ensures rawInput e
+    ap (λ (r : TextAnswer). textReply r (p .compose-points .last .1 .1 .1 .1 .1 .0)) (c .answer .ensures)
+    ∙ p .compose-points .ensures rawInput e
     ∙ ap (λ (s : List ℕ). placed 0 (encode (compose unicode16 rawInput s (a .args .tone) (a .args .khin))) (a .args .out .now)) (written-take (h .2))
     ∙ ap (λ (k : Checked). composeOf unicode16 (a .args .tone) (a .args .khin) (good rawInput) k (a .args .out .now)) (sym (h .1))
 
@@ -70,6 +75,7 @@ compose-body-spec =
     enum-known-why
     enum-known-len
     compose-points-requires
+    answer-requires
     same-length
     returns
     same-length-2
