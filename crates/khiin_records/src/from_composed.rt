@@ -345,10 +345,11 @@ fn is_below(s: &[u8], at: usize) -> bool
     false
 }
 
-// How many bytes the body has, and how many candidates there are.
+// How many bytes the body has, and how many candidates there are. Of two numbers of one width the record would be made by one load of both, which
+// waits for their stores.
 pub(crate) struct Spelled {
     pub(crate) len: usize,
-    pub(crate) count: u64,
+    pub(crate) count: u8,
 }
 
 // Copies the ASCII bytes that `s` begins with, and returns their number. Most texts have no other.
@@ -376,7 +377,7 @@ fn spell_rest(s: &[u8], start: usize, vowel: u8, out: &mut [u8]) -> Spelled
 {
     let mut i: usize = start;
     let mut n: usize = start;
-    let mut count: u64 = 1;
+    let mut count: u8 = 1;
     while i < s.len() {
         if is_pair(s, i, 0xCD, 0x98) {
             out[n] = vowel;
@@ -459,7 +460,7 @@ fn write_candidate(s: &[u8], tone: Tone, khin: Khin, position: u64, out: &mut [u
     } else {
         let spelled = spell(s, vowel, out);
         let body = spelled.len;
-        let count = spelled.count;
+        let count = spelled.count as u64;
         let len = put_keys(tone, khin, out, body);
         Recorded::Done(Record {
             len: ByteLen(len),
