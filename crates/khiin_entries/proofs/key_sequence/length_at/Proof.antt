@@ -21,55 +21,43 @@ Inv-loop lengths radices parts position i₀ left₀ n₀ i left n =
 abbrev μ-loop : tie.MeasureT-loop
 μ-loop lengths radices parts position i₀ left₀ n₀ i left n = i
 
--- src/key_sequence.rt:80:5
 loop-holds : tie.Need-loop-holds Inv-loop μ-loop
 loop-holds c = search needs
 
--- src/key_sequence.rt:81:9
 sub-i : tie.Need-sub-i Inv-loop μ-loop
 sub-i c = search needs
 
--- src/key_sequence.rt:82:36
 element-copy-out-digit-of : tie.Need-element-copy-out-digit-of Inv-loop μ-loop
 element-copy-out-digit-of c = search needs
 
--- src/key_sequence.rt:82:13
 digit-of-requires : tie.Need-digit-of-requires Inv-loop μ-loop
 digit-of-requires c κs = let l = c .before .before in l .before .pre .1 (l .loop .i - 1) (omega arith)
 
--- src/key_sequence.rt:84:19
 mul-wide : tie.Need-mul-wide Inv-loop μ-loop
 mul-wide c = search needs
 
--- src/key_sequence.rt:84:19
 mul-wide-2 : tie.Need-mul-wide-2 Inv-loop μ-loop
 mul-wide-2 c =
     let l = c .before .before .before in
     omega (arith, digit-small (l .loop .left) _ _ (l .before .pre .1 (l .loop .i - 1) (omega arith)) (c .digit-of .ensures .0))
 
--- src/key_sequence.rt:84:19
 index-1-wide : tie.Need-index-1-wide Inv-loop μ-loop
 index-1-wide c = search needs
 
--- src/key_sequence.rt:84:19
 index-2-wide : tie.Need-index-2-wide Inv-loop μ-loop
 index-2-wide c =
     let l = c .before .before .before in
     digit-small (l .loop .left) _ _ (l .before .pre .1 (l .loop .i - 1) (omega arith)) (c .digit-of .ensures .0)
 
--- src/key_sequence.rt:84:14
 wide-requires : tie.Need-wide-requires Inv-loop μ-loop
 wide-requires c κs = search needs
 
--- src/key_sequence.rt:84:9
 add-n : tie.Need-add-n Inv-loop μ-loop
 add-n c = search needs
 
--- src/key_sequence.rt:80:5
 loop-less : tie.Need-loop-less Inv-loop μ-loop
 loop-less c = search needs
 
--- src/key_sequence.rt:80:5
 loop-again : tie.Need-loop-again Inv-loop μ-loop
 loop-again c =
     let d = c .before .before .digit-of in
@@ -78,7 +66,6 @@ loop-again c =
     let turn = length-turn (a .lengths .now) (a .radices .now) (l .loop .i) (l .loop .left) _ _ (omega arith) (d .ensures .0) (d .ensures .1) in
     (omega arith, omega (arith, turn, c .wide .ensures .0, l .loop .inv .1), omega arith)
 
--- src/key_sequence.rt:73:1
 returns : tie.Need-returns Inv-loop μ-loop
 returns c =
     let l = c .before in

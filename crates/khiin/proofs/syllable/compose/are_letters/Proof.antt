@@ -9,22 +9,18 @@ use borrow.Author.Needs.{needs}
 use Rattle.khiin.proofs.syllable.compose.are_letters.Statement.{statement}
 use Rattle.khiin.proofs.syllable.compose.are_letters.Tie as tie
 
--- src/syllable/compose.rt:213:8
 is-either-requires : tie.Need-is-either-requires
 is-either-requires c κs = search needs
 
--- src/syllable/compose.rt:214:9
 is-either-requires-2 : tie.Need-is-either-requires-2
 is-either-requires-2 c κs = search needs
 
--- src/syllable/compose.rt:214:9
 returns : tie.Need-returns
 returns c =
     let a = c .before .before .before .args in
     let first = listed (a .a ∷ a .b ∷ []) (a .before) in
     c .is-either2 .ensures ∙ sym (ap (λ (t : Bool). first && t) (sym (c .before .before .is-either .ensures) ∙ c .before .if1 .taken) ∙ and-true first)
 
--- src/syllable/compose.rt:210:1
 returns-2 : tie.Need-returns-2
 returns-2 c =
     let a = c .before .before .args in

@@ -17,35 +17,27 @@ Inv-loop s a b c d before₀ i₀ before i = (i ≤ length s) × (apartFrom (a �
 abbrev μ-loop : tie.MeasureT-loop
 μ-loop s a b c d before₀ i₀ before i = length s - i
 
--- src/syllable/compose.rt:225:5
 loop-holds : tie.Need-loop-holds Inv-loop μ-loop
 loop-holds c = (omega arith, refl)
 
--- src/syllable/compose.rt:226:17
 mul-x : tie.Need-mul-x Inv-loop μ-loop
 mul-x c = omega arith
 
--- src/syllable/compose.rt:226:17
 shared-slice-read-x : tie.Need-shared-slice-read-x Inv-loop μ-loop
 shared-slice-read-x c = omega arith
 
--- src/syllable/compose.rt:227:12
 are-letters-requires : tie.Need-are-letters-requires Inv-loop μ-loop
 are-letters-requires c κs = tt
 
--- src/syllable/compose.rt:228:13
 returns : tie.Need-returns Inv-loop μ-loop
 returns c = λ e. absurd (false-true (sym e))
 
--- src/syllable/compose.rt:231:9
 add-i : tie.Need-add-i Inv-loop μ-loop
 add-i c = omega arith
 
--- src/syllable/compose.rt:225:5
 loop-less : tie.Need-loop-less Inv-loop μ-loop
 loop-less c = omega arith
 
--- src/syllable/compose.rt:225:5
 loop-again : tie.Need-loop-again Inv-loop μ-loop
 loop-again c =
     let l = c .before .before .before .before .loop in
@@ -53,7 +45,6 @@ loop-again c =
     let A = c .before .before .before .before .before .before .args in
     (omega arith, l .inv .1 ∙ apart-step (A .a ∷ A .b ∷ []) (A .c ∷ A .d ∷ []) (l .before) s (l .i) (c .before .before .before .loop-test .taken) (sym (c .before .are-letters .ensures) ∙ c .if1 .left))
 
--- src/syllable/compose.rt:220:1
 returns-2 : tie.Need-returns-2 Inv-loop μ-loop
 returns-2 c = λ e.
     let l = c .before .loop in

@@ -13,12 +13,10 @@ or-false : (b : Bool) → (b || false) ≡ b
 or-false true = refl
 or-false false = refl
 
--- src/syllable/compose.rt:204:9
 returns : tie.Need-returns
 unfolding listed
 returns c = sym (or-yes _ _ (eq-eqb _ _ (c .if1 .taken)))
 
--- src/syllable/compose.rt:200:1
 returns-2 : tie.Need-returns-2
 unfolding listed
 returns-2 c = let a = c .before .args in sym (or-no _ _ (ne-eqb _ _ (c .if1 .left)) ∙ or-false (eqb (a .b) (a .x)))

@@ -6,27 +6,21 @@ use borrow.Author.Needs.{needs}
 use Rattle.khiin.proofs.syllable.compose.respell_any_e.Statement.{statement}
 use Rattle.khiin.proofs.syllable.compose.respell_any_e.Tie as tie
 
--- src/syllable/compose.rt:267:8
 has-letters-requires : tie.Need-has-letters-requires
 has-letters-requires c κs = search needs
 
--- src/syllable/compose.rt:268:9
 respell-e-requires : tie.Need-respell-e-requires
 respell-e-requires c κs = search needs
 
--- src/syllable/compose.rt:269:9
 same-length : tie.Need-same-length
 same-length c = search needs
 
--- src/syllable/compose.rt:269:9
 returns : tie.Need-returns
 returns c = search needs
 
--- src/syllable/compose.rt:264:1
 same-length-2 : tie.Need-same-length-2
 same-length-2 c = search needs
 
--- src/syllable/compose.rt:264:1
 returns-2 : tie.Need-returns-2
 returns-2 c =
     let a = c .before .before .before .before .args in

@@ -6,27 +6,21 @@ use borrow.Author.Needs.{needs}
 use Rattle.khiin.proofs.syllable.compose.respell_any_o.Statement.{statement}
 use Rattle.khiin.proofs.syllable.compose.respell_any_o.Tie as tie
 
--- src/syllable/compose.rt:257:8
 has-letters-requires : tie.Need-has-letters-requires
 has-letters-requires c κs = search needs
 
--- src/syllable/compose.rt:258:9
 respell-o-requires : tie.Need-respell-o-requires
 respell-o-requires c κs = search needs
 
--- src/syllable/compose.rt:259:9
 same-length : tie.Need-same-length
 same-length c = search needs
 
--- src/syllable/compose.rt:259:9
 returns : tie.Need-returns
 returns c = search needs
 
--- src/syllable/compose.rt:254:1
 same-length-2 : tie.Need-same-length-2
 same-length-2 c = search needs
 
--- src/syllable/compose.rt:254:1
 returns-2 : tie.Need-returns-2
 returns-2 c =
     let a = c .before .before .before .before .args in

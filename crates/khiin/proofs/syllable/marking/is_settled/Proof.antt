@@ -15,42 +15,33 @@ Inv-loop s before₀ i₀ before i = (i ≤ length s) × (settledFrom 0 s ≡ se
 abbrev μ-loop : tie.MeasureT-loop
 μ-loop s before₀ i₀ before i = length s - i
 
--- src/syllable/quick.rt:343:5
 loop-holds : tie.Need-loop-holds Inv-loop μ-loop
 loop-holds c = (omega arith, refl)
 
--- src/syllable/quick.rt:344:17
 mul-x : tie.Need-mul-x Inv-loop μ-loop
 mul-x c = omega arith
 
--- src/syllable/quick.rt:344:17
 shared-slice-read-x : tie.Need-shared-slice-read-x Inv-loop μ-loop
 shared-slice-read-x c = omega arith
 
--- src/syllable/quick.rt:345:12
 stays-behind-requires : tie.Need-stays-behind-requires Inv-loop μ-loop
 stays-behind-requires c κs = tt
 
--- src/syllable/quick.rt:347:13
 add-i : tie.Need-add-i Inv-loop μ-loop
 add-i c = omega arith
 
--- src/syllable/quick.rt:343:5
 loop-less : tie.Need-loop-less Inv-loop μ-loop
 loop-less c = omega arith
 
--- src/syllable/quick.rt:343:5
 loop-again : tie.Need-loop-again Inv-loop μ-loop
 loop-again c =
     let l = c .before .before .before .before .loop in
     let s = c .before .before .before .before .before .before .args .s .now in
     (omega arith, l .inv .1 ∙ settled-step (l .before) s (l .i) (c .before .before .before .loop-test .taken) (c .before .stays-behind .ensures (c .if1 .taken)))
 
--- src/syllable/quick.rt:349:13
 returns : tie.Need-returns Inv-loop μ-loop
 returns c = λ e. absurd (false-true e)
 
--- src/syllable/quick.rt:338:1
 returns-2 : tie.Need-returns-2 Inv-loop μ-loop
 returns-2 c = λ e.
     let l = c .before .loop in

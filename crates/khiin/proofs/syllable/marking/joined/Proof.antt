@@ -11,63 +11,48 @@ use Rattle.khiin.proofs.syllable.marking.joined.Tie as tie
 known : (x r : ℕ) {mark k : ℕ} → mark ≡ k → Joined x k r → Joined x mark r
 known x r e h = subst (λ (m : ℕ). Joined x m r) (sym e) h
 
--- src/syllable/quick.rt:174:19
 grave-requires : tie.Need-grave-requires
 grave-requires c κs = tt
 
--- src/syllable/quick.rt:175:19
 acute-requires : tie.Need-acute-requires
 acute-requires c κs = tt
 
--- src/syllable/quick.rt:176:19
 circumflex-requires : tie.Need-circumflex-requires
 circumflex-requires c κs = tt
 
--- src/syllable/quick.rt:177:19
 tilde-requires : tie.Need-tilde-requires
 tilde-requires c κs = tt
 
--- src/syllable/quick.rt:178:19
 macron-requires : tie.Need-macron-requires
 macron-requires c κs = tt
 
--- src/syllable/quick.rt:179:19
 breve-requires : tie.Need-breve-requires
 breve-requires c κs = tt
 
--- src/syllable/quick.rt:180:19
 line-requires : tie.Need-line-requires
 line-requires c κs = tt
 
--- src/syllable/quick.rt:170:1
 returns : tie.Need-returns
 returns c = known (c .before .before .args .x) (c .grave .result) (c .before .match .keys1) (c .grave .ensures)
 
--- src/syllable/quick.rt:170:1
 returns-2 : tie.Need-returns-2
 returns-2 c = known (c .before .before .args .x) (c .acute .result) (c .before .match .keys2) (c .acute .ensures)
 
--- src/syllable/quick.rt:170:1
 returns-3 : tie.Need-returns-3
 returns-3 c = known (c .before .before .args .x) (c .circumflex .result) (c .before .match .keys3) (c .circumflex .ensures)
 
--- src/syllable/quick.rt:170:1
 returns-4 : tie.Need-returns-4
 returns-4 c = known (c .before .before .args .x) (c .tilde .result) (c .before .match .keys4) (c .tilde .ensures)
 
--- src/syllable/quick.rt:170:1
 returns-5 : tie.Need-returns-5
 returns-5 c = known (c .before .before .args .x) (c .macron .result) (c .before .match .keys5) (c .macron .ensures)
 
--- src/syllable/quick.rt:170:1
 returns-6 : tie.Need-returns-6
 returns-6 c = known (c .before .before .args .x) (c .breve .result) (c .before .match .keys6) (c .breve .ensures)
 
--- src/syllable/quick.rt:170:1
 returns-7 : tie.Need-returns-7
 returns-7 c = known (c .before .before .args .x) (c .line .result) (c .before .match .keys7) (c .line .ensures)
 
--- src/syllable/quick.rt:170:1
 returns-8 : tie.Need-returns-8
 returns-8 c = joined-not (c .before .args .x) (c .before .args .mark)
 
