@@ -42,6 +42,10 @@ or-yes a b e = ap (λ (x : Bool). x || b) e
 pub or-no : (a b : Bool) → a ≡ false → (a || b) ≡ b
 or-no a b e = ap (λ (x : Bool). x || b) e
 
+pub or-false : (a : Bool) → (a || false) ≡ a
+or-false true = refl
+or-false false = refl
+
 pub number-yes : (b : Bool) (x y : ℕ) → b ≡ true → pickNumber b x y ≡ x
 number-yes b x y e = ap (λ (t : Bool). pickNumber t x y) e
 

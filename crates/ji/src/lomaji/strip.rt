@@ -114,29 +114,30 @@ fn ends_in(ending: &[u8], s: &[u8]) -> bool
     true
 }
 
+// Whether `s` has one of the seven endings of a stop. Its last byte tells which of them it might have.
+fn ends_in_any(s: &[u8]) -> bool
+    ensures { λ r. ⌜ r ≡ endsInAny stopEndings (now (s .entry)) ⌝ }
+{
+    if s.len() == 0 {
+        return false;
+    }
+    match lower(s[s.len() - 1]) {
+        b'h' => ends_in(b"h", s),
+        b'p' => ends_in(b"p", s),
+        b't' => ends_in(b"t", s),
+        b'k' => ends_in(b"k", s),
+        b'n' => ends_in(b"hnn", s),
+        0xBF => ends_in(b"h\xE2\x81\xBF", s),
+        0xBA => ends_in(b"h\xE1\xB4\xBA", s),
+        _ => false,
+    }
+}
+
 // The tone of a text without a mark, from its bytes.
-fn unmarked_tone(s: &[u8]) -> Tone
+pub fn unmarked_tone(s: &[u8]) -> Tone
     ensures { λ r. ⌜ r ≡ unmarkedTone (now (s .entry)) ⌝ }
 {
-    if ends_in(b"h", s) {
-        return Tone::T4;
-    }
-    if ends_in(b"p", s) {
-        return Tone::T4;
-    }
-    if ends_in(b"t", s) {
-        return Tone::T4;
-    }
-    if ends_in(b"k", s) {
-        return Tone::T4;
-    }
-    if ends_in(b"hnn", s) {
-        return Tone::T4;
-    }
-    if ends_in(b"h\xE2\x81\xBF", s) {
-        return Tone::T4;
-    }
-    if ends_in(b"h\xE1\xB4\xBA", s) {
+    if ends_in_any(s) {
         return Tone::T4;
     }
     Tone::T1

@@ -5,8 +5,8 @@ use mathlib.Core.List.{List, [], _∷_, _++_, map}
 use Prim.Native.Nat.{ℕ, zero, suc, _+_, _-_, _≤_, _<_}
 use native.Mathlib.Omega.{arith}
 use native.Mathlib.Numerals.{add-one}
-use lib.Dec.{T, eqb}
-use borrow.Author.Tests.{eq-eqb, ne-eqb}
+use lib.Dec.{T, eqb, leb}
+use borrow.Author.Tests.{eq-eqb, ne-eqb, eqb-false, leb-true, leb-false}
 use lib.ListN.{length, drop, getD, drop-of-length-le}
 use lib.Seq.{drop-cons}
 use Rattle.ucd.specs.Table.{Table, pickText, same}
@@ -20,7 +20,7 @@ use Rattle.ji.specs.declared.reply.Refusal.{Refusal}
 use Rattle.ji.specs.Lomaji.Strip.{toneMarks, toneIn, markIn, markTone, isToneMark, withoutMarks, droppedMarks, lastTone, endsIn, endsInAny, stopEndings, unmarkedTone, toneOr, stripped, strippedReply, stripOf, stripCall}
 use Rattle.ji.specs.declared.tone.Tone.{Tone}
 use Rattle.ji.specs.declared.tone.Tone.the-variants.{None, T1, T2, T3, T4, T5, T6, T7, T8, T9}
-use Rattle.ji.proofs.Bools.{either, false-true, and-no, and-yes, and-false, or-yes, or-no, text-yes, text-no}
+use Rattle.ji.proofs.Bools.{either, false-true, and-no, and-yes, and-false, or-yes, or-no, or-false, text-yes, text-no}
 
 -- ── marks
 abbrev Toned : List (ℕ × Tone) → Type 0
@@ -131,6 +131,34 @@ pub ends-end : (e s : List ℕ) (at i : ℕ) → length e ≤ i → length s ≤
 unfolding same
 ends-end e s at i h k = ap₂ (λ (x y : List ℕ). same (map lower x) y) (drop-of-length-le s k) (drop-of-length-le e h)
 
+-- a difference further on is one of the whole
+ends-later : (e s : List ℕ) (at i : ℕ) → i < length e → at + length e ≡ length s → tailIs e s at i ≡ false → tailIs e s at 0 ≡ false
+ends-later e s at zero h k f = f
+ends-later e s at (suc i) h k f =
+    let n : suc i ≡ i + 1 = sym (add-one i) in
+    let later : tailIs e s at (i + 1) ≡ false = subst (λ (j : ℕ). tailIs e s at j ≡ false) n f in
+    ends-later e s at i (omega arith) k
+    (ends-step e s at i (omega arith) (omega arith) ∙ ap (λ (b : Bool). eqb (lower (getD s (at + i) 0)) (getD e i 0) && b) later ∙ and-false (eqb (lower (getD s (at + i) 0)) (getD e i 0)))
+
+-- the last letter of a text
+abbrev pub lastLetter : List ℕ → ℕ
+lastLetter s = getD s (length s - 1) 0
+
+-- a text with another last letter, in lower case, than an ending has not that ending
+letter-differs : (e s : List ℕ) → 0 < length e → (lower (lastLetter s) ≡ lastLetter e → ⊥) → endsIn e s ≡ false
+letter-differs e s some f = by-length (leb (length e) (length s)) refl
+  where
+    by-length : (b : Bool) → leb (length e) (length s) ≡ b → endsIn e s ≡ false
+    by-length false n = sym (ends-short e s (leb-false (length e) (length s) n))
+    by-length true y =
+        let l : length e ≤ length s = leb-true (length e) (length s) y in
+        let at : ℕ = length s - length e in
+        let i : ℕ = length e - 1 in
+        let same-place : at + i ≡ length s - 1 = omega arith in
+        ends-start e s at refl
+        ∙ ends-later e s at i (omega arith) (omega arith)
+        (ends-differ e s at i (omega arith) (omega arith) (λ z. f (ap (λ (k : ℕ). lower (getD s k 0)) (sym same-place) ∙ z)))
+
 -- ── the tone without a mark
 -- the seven endings as the code has them
 abbrev pub stopBytes : List (List ℕ)
@@ -141,33 +169,57 @@ stop-bytes : stopEndings ≡ stopBytes
 unfolding encode bytesOf
 stop-bytes = refl
 
--- the ending at k of a list
-abbrev pub nth : List (List ℕ) → ℕ → List ℕ
-nth [] k = []
-nth (e ∷ es) zero = e
-nth (e ∷ es) (suc k) = nth es k
+abbrev pickEndings : Bool → List (List ℕ) → List (List ℕ) → List (List ℕ)
+pickEndings true a b = a
+pickEndings false a b = b
 
-any-found : (es : List (List ℕ)) (k : ℕ) (s : List ℕ) → k < length es → endsIn (nth es k) s ≡ true → endsInAny es s ≡ true
-any-found [] k s h e = absurd (omega arith)
-any-found (x ∷ es) zero s h e = or-yes _ _ e
-any-found (x ∷ es) (suc k) s h e =
-    either (endsIn x s) (λ y. or-yes _ _ y) (λ n. or-no _ _ n ∙ any-found es k s (omega arith) e)
+-- those of some endings that have this last letter
+abbrev pub lettered : ℕ → List (List ℕ) → List (List ℕ)
+lettered x [] = []
+lettered x (e ∷ es) = pickEndings (eqb x (lastLetter e)) (e ∷ lettered x es) (lettered x es)
 
-abbrev pub NoneFound : List (List ℕ) → List ℕ → Type 0
-NoneFound [] s = Unit {0}
-NoneFound (e ∷ es) s = (endsIn e s ≡ false) × NoneFound es s
+abbrev Lengthy : List (List ℕ) → Type 0
+Lengthy [] = Unit {0}
+Lengthy (e ∷ es) = (0 < length e) × Lengthy es
 
-none-found : (es : List (List ℕ)) (s : List ℕ) → NoneFound es s → endsInAny es s ≡ false
-none-found [] s h = refl
-none-found (e ∷ es) s h = or-no _ _ (h .0) ∙ none-found es s (h .1)
+-- a text has no others
+by-letter : (x : ℕ) (s : List ℕ) → x ≡ lower (lastLetter s) → (es : List (List ℕ)) → Lengthy es → endsInAny es s ≡ endsInAny (lettered x es) s
+by-letter x s h [] l = refl
+by-letter x s h (e ∷ es) l =
+    either (eqb x (lastLetter e))
+    (λ y.
+    ap (λ (b : Bool). endsIn e s || b) (by-letter x s h es (l .1))
+    ∙ sym (ap (λ (b : Bool). endsInAny (pickEndings b (e ∷ lettered x es) (lettered x es)) s) y))
+    (λ n.
+    or-no _ _ (letter-differs e s (l .0) (λ z. eqb-false x (lastLetter e) n (h ∙ z)))
+    ∙ by-letter x s h es (l .1)
+    ∙ sym (ap (λ (b : Bool). endsInAny (pickEndings b (e ∷ lettered x es) (lettered x es)) s) n))
 
-pub stopped : (k : ℕ) (s : List ℕ) → k < 7 → endsIn (nth stopBytes k) s ≡ true → T4 ≡ unmarkedTone s
-unfolding unmarkedTone
-stopped k s h e = sym (ap (λ (b : Bool). pickTone b T4 T1) (ap (λ (es : List (List ℕ)). endsInAny es s) stop-bytes ∙ any-found stopBytes k s h e))
+stop-letter : (x : ℕ) (s : List ℕ) → x ≡ lower (lastLetter s) → endsInAny stopEndings s ≡ endsInAny (lettered x stopBytes) s
+stop-letter x s h =
+    ap (λ (es : List (List ℕ)). endsInAny es s) stop-bytes
+    ∙ by-letter x s h stopBytes (omega arith, (omega arith, (omega arith, (omega arith, (omega arith, (omega arith, (omega arith, tt)))))))
 
-pub open-ended : (s : List ℕ) → NoneFound stopBytes s → T1 ≡ unmarkedTone s
-unfolding unmarkedTone
-open-ended s h = sym (ap (λ (b : Bool). pickTone b T4 T1) (ap (λ (es : List (List ℕ)). endsInAny es s) stop-bytes ∙ none-found stopBytes s h))
+-- the only ending with the last letter x
+pub stop-one : (x : ℕ) (e s : List ℕ) → lettered x stopBytes ≡ e ∷ [] → x ≡ lower (lastLetter s) → endsIn e s ≡ endsInAny stopEndings s
+stop-one x e s one h = sym (stop-letter x s h ∙ ap (λ (es : List (List ℕ)). endsInAny es s) one ∙ or-false (endsIn e s))
+
+abbrev pub Unlettered : ℕ → List (List ℕ) → Type 0
+Unlettered x [] = Unit {0}
+Unlettered x (e ∷ es) = (x ≡ lastLetter e → ⊥) × Unlettered x es
+
+none-lettered : (x : ℕ) (es : List (List ℕ)) → Unlettered x es → lettered x es ≡ []
+none-lettered x [] h = refl
+none-lettered x (e ∷ es) h =
+    ap (λ (b : Bool). pickEndings b (e ∷ lettered x es) (lettered x es)) (ne-eqb x (lastLetter e) (h .0)) ∙ none-lettered x es (h .1)
+
+-- no ending has it
+pub stop-none : (x : ℕ) (s : List ℕ) → x ≡ lower (lastLetter s) → Unlettered x stopBytes → false ≡ endsInAny stopEndings s
+stop-none x s h u = sym (stop-letter x s h ∙ ap (λ (es : List (List ℕ)). endsInAny es s) (none-lettered x stopBytes u))
+
+pub stop-empty : false ≡ endsInAny stopEndings []
+unfolding endsIn same encode bytesOf
+stop-empty = refl
 
 -- once there is a tone, it stays one
 last-stays : (s : List ℕ) (o : Tone) → isTone o ≡ true → isTone (lastTone o (droppedMarks s)) ≡ true
