@@ -9,11 +9,11 @@ use borrow.Author.Tests.{eq-eqb, ne-eqb}
 use lib.Dec.{T, eqb}
 use lib.ListN.{length, drop, getD, drop-of-length-le}
 use lib.Seq.{drop-cons, drop-drop}
-use Rattle.ucd.specs.Table.{Table, All, Atom, member, decomposition, pickText}
-use Rattle.ucd.specs.Full.{full}
+use Rattle.ucd.specs.Table.{Table, All, Atom, member, decomposition, mappingIn, pickText}
+use Rattle.ucd.specs.Full.{full, pass, passes}
 use Rattle.ucd.specs.Answer.{textOf}
 use Rattle.ucd.specs.declared.Mapping.{Mapping}
-use Rattle.ucd.specs.Unicode16.{unicode16}
+use Rattle.ucd.specs.Unicode16.{unicode16, mappings16}
 use Rattle.ucd.proofs.Unicode16.{member-below, low-atom, full-itself, full-one, full-two, full-length}
 use Rattle.ji.specs.Utf8.{widthAt, pointAt}
 use Rattle.ji.specs.Unicode.{members, acceptedFrom, accepted, spread}
@@ -127,3 +127,8 @@ module _ (t : Table) where
   accepted-nil : accepted t [] ≡ []
   unfolding accepted acceptedFrom
   accepted-nil = refl
+
+-- the dot of o+0358 decomposes no further
+pub dot-full : full unicode16 (0x0358 ∷ []) ≡ 0x0358 ∷ []
+unfolding full passes pass decomposition unicode16 mappingIn mappings16
+dot-full = refl

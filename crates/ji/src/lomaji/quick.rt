@@ -183,7 +183,7 @@ fn letter(c: u16) -> u32
 }
 
 // Takes the full decomposition of a code point.
-fn push_point(c: u16, out: &mut [u8], p: Progress) -> Progress
+fn push_decomposed(c: u16, out: &mut [u8], p: Progress) -> Progress
     requires { ⌜ p .n + 9 ≤ length (now out) ⌝ }
     ensures { λ r. ⌜ (r .n ≤ p .n + 9) × Further p r (now (out .entry)) (now (out .exit)) (full unicode16 (c ∷ [])) ⌝ }
 {
@@ -200,6 +200,17 @@ fn push_point(c: u16, out: &mut [u8], p: Progress) -> Progress
             push(b, out, q)
         }
     }
+}
+
+// The same. U+0358 is its own decomposition and no tone mark, and most texts that hold a mark of another kind hold this one.
+fn push_point(c: u16, out: &mut [u8], p: Progress) -> Progress
+    requires { ⌜ p .n + 9 ≤ length (now out) ⌝ }
+    ensures { λ r. ⌜ (r .n ≤ p .n + 9) × Further p r (now (out .entry)) (now (out .exit)) (full unicode16 (c ∷ [])) ⌝ }
+{
+    if c == 0x0358 {
+        return push_kept(c, out, p);
+    }
+    push_decomposed(c, out, p)
 }
 
 // The stripped text of `s`, in UTF-8, written to the front of `out`, and its tone.

@@ -63,10 +63,6 @@ pub dots-full : full unicode16 (0x0324 ∷ []) ≡ 0x0324 ∷ []
 unfolding full passes pass decomposition unicode16 mappingIn mappings16
 dots-full = refl
 
-pub dot-full : full unicode16 (0x0358 ∷ []) ≡ 0x0358 ∷ []
-unfolding full passes pass decomposition unicode16 mappingIn mappings16
-dot-full = refl
-
 pub small-full : full unicode16 (0x207F ∷ []) ≡ 0x207F ∷ []
 unfolding full passes pass decomposition unicode16 mappingIn mappings16
 small-full = refl

@@ -26,7 +26,8 @@ use Rattle.ji.proofs.ComposeLoops.{low-stays}
 use Rattle.ji.proofs.Decomposition.{full-nil, full-cons}
 use Rattle.khiin.specs.Syllable.{markOf, encoded}
 use Rattle.khiin.specs.Compose.{staysBehind, settledFrom, isMark}
-use Rattle.khiin.proofs.syllable.marking.Facts.{low-starter, dots-class, dot-class, small-class, capital-class, low-full, dots-full, dot-full, small-full, capital-full, no-composite}
+use Rattle.ji.proofs.unicode.Laws.{dot-full}
+use Rattle.khiin.proofs.syllable.marking.Facts.{low-starter, dots-class, dot-class, small-class, capital-class, low-full, dots-full, small-full, capital-full, no-composite}
 
 -- ── one code point
 data Kind (before x : ℕ) : Type 0 where
