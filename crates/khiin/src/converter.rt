@@ -14,12 +14,12 @@ use ji::tone::Tone;
 use ji::unicode;
 use ji::unicode::Decoded;
 ghost use mathlib.Core.Path.{_≡_};
-ghost use mathlib.Core.Bool.{not, _||_};
+ghost use mathlib.Core.Bool.{true, not, _||_};
 ghost use mathlib.Core.List.{List, [], _∷_, _++_};
 ghost use Prim.Native.Nat.{ℕ, _+_, _-_, _*_, _/_, _≤_, _<_};
 ghost use lib.ListN.{length, take};
 ghost use Rattle.ji.specs.Unicode.{unicode16, listed};
-ghost use Rattle.ji.specs.Text.{points as pointsOf};
+ghost use Rattle.ji.specs.Text.{points as pointsOf, allAscii};
 ghost use Rattle.ji.specs.Utf8.{decode, encode, lastStart};
 ghost use Rattle.ji.specs.Reply.{placed, textCall, textReply, good, checkPoints};
 ghost use Rattle.ji.specs.Lomaji.ToneLetter.{toneLetter, isSome};
@@ -472,7 +472,25 @@ fn finish(
     }
 }
 
-// The step in a buffer of bytes for the stripped text and one of code points.
+// Copies `text` to the front of `bytes`, as far as it is ASCII, and says whether all of it is.
+fn copy_ascii(text: &[u8], bytes: &mut [u8]) -> bool
+    requires { ⌜ length (now text) ≤ length (now bytes) ⌝ }
+    ensures { λ r. ⌜ (r ≡ true → (allAscii (now (text .entry)) ≡ true) × (take (length (now (text .entry))) (now (bytes .exit)) ≡ now (text .entry))) ⌝ }
+{
+    let mut i: usize = 0;
+    while i < text.len() {
+        let x = text[i];
+        if 0x7F < x {
+            return false;
+        }
+        bytes[i] = x;
+        i += 1;
+    }
+    true
+}
+
+// The step in a buffer of bytes for the stripped text and one of code points. An ASCII text is its own stripped text, has no mark, and takes none of
+// the branches before the last.
 fn step_in(
     k: ToneKeys,
     key: u8,
@@ -484,16 +502,25 @@ fn step_in(
     requires { ⌜ (key ≤ 0x7F) × (length (now text) ≤ 256) × (5 * length (now text) + 4 ≤ 2 * length (now bytes)) × (length (now bytes) ≤ length (now points) / 3 * 2) × (length (now bytes) + 1 < length (now points)) ⌝ }
     ensures { λ r. ⌜ textReply r (now (out .exit)) ≡ textCall unicode16 (stepOf unicode16 k key) (now (text .entry)) (now (out .entry)) ⌝ }
 {
-    match strip::strip_tone_diacritic(text, bytes) {
-        Strip::Refused(why) => TextAnswer::Refused(why),
-        Strip::Done(result) => {
-            let len = result.len;
-            let n = len.0;
-            let tone = result.tone;
-            let edit = edit_of(k, key as u16, tone, text);
-            finish(k, key, tone, edit, bytes, n, points, out)
+    let mut n = text.len();
+    let mut tone = Tone::T1;
+    let mut edit = Edit::Compose;
+    if copy_ascii(text, bytes) {
+        tone = strip::unmarked_tone(text);
+    } else {
+        match strip::strip_tone_diacritic(text, bytes) {
+            Strip::Refused(why) => {
+                return TextAnswer::Refused(why);
+            }
+            Strip::Done(result) => {
+                let len = result.len;
+                n = len.0;
+                tone = result.tone;
+                edit = edit_of(k, key as u16, tone, text);
+            }
         }
     }
+    finish(k, key, tone, edit, bytes, n, points, out)
 }
 
 // In buffers for a text of at most 8 bytes, as a syllable is: clearing small ones is quicker. A stripped text has at most five bytes for each two of

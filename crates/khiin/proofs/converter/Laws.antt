@@ -12,24 +12,29 @@ use lib.Dec.{eqb}
 use lib.ListN.{length, take, drop, getD, set, drop-of-length-le}
 use lib.Seq.{length-take-le, take-take, take-suc-set}
 use Rattle.ji.specs.Unicode.{Table, unicode16, member, members, pickText, pickNumber, same, listed}
-use Rattle.ji.specs.Text.{points, marked, point, within, lower, begins, replaceAll, butLast, last}
+use Rattle.ji.specs.Text.{points, marked, point, within, lower, begins, replaceAll, butLast, last, allAscii}
 use Rattle.ji.specs.Utf8.{decode, encode, lastStart, lastPoint}
 use Rattle.ji.specs.Reply.{good, checkPoints}
-use Rattle.ji.specs.Tone.{isTone}
+use Rattle.ji.specs.Tone.{isTone, pickTone}
+use Rattle.ji.specs.Lomaji.Strip.{endsInAny, stopEndings, unmarkedTone, strip}
 use Rattle.ji.specs.Lomaji.ToneLetter.{toneLetter, isSome, hasToneLetter}
 use Rattle.ji.specs.declared.tone.Tone.{Tone}
-use Rattle.ji.specs.declared.tone.Tone.the-variants.{None}
+use Rattle.ji.specs.declared.tone.Tone.the-variants.{None, T1, T4}
 use Rattle.ji.specs.declared.lomaji.khin.Khin.the-variants.{No}
 use Rattle.ji.specs.Lomaji.Keys.{respell}
-use Rattle.ji.proofs.Bools.{and-yes, and-no, and-true, and-false, and-left, and-right, or-no}
+use Rattle.ji.proofs.Bools.{either, and-yes, and-no, and-true, and-false, and-left, and-right, or-no}
 use Rattle.ji.proofs.Replies.{within-points}
 use Rattle.ji.proofs.unicode.Bytes.{bytes-one, encode-nil, encode-cons, encode-append, last-skip, front-bytes}
 use Rattle.ji.proofs.unicode.Checked.{Passed, check-passed, last-back}
+use Rattle.ji.proofs.unicode.Ascii.{ascii-at}
+use Rattle.ji.proofs.lomaji.strip.Ascii.{ascii-stripped, ascii-tone}
+use Rattle.ji.proofs.lomaji.tone_letter.Marks.{letter-stripped}
 use Rattle.ji.proofs.text.Laws.{drop-next, replace-nil, replace-hit, replace-miss, replace-short, replacePoints, points-first, points-second, points-other}
 use Rattle.khiin.specs.Syllable.{compose}
 use Rattle.khiin.specs.Converter.{keyToTone, toneToKey, endsWith, repeatsTone, opensNasal, opensDot, opensO, opensU, eLike, grown, nasalSigns, endsInStop, sharedOr, toned, joined, bare, isFirst, composedStep, step}
-use Rattle.khiin.specs.Telex.{pickEdit, editBy, editAt, editOf, composedOf, edited}
+use Rattle.khiin.specs.Telex.{pickEdit, editBy, editAt, editOf, composedOf, edited, stepOf}
 use Rattle.khiin.specs.declared.converter.ToneKeys.{ToneKeys}
+use Rattle.khiin.specs.declared.converter.Edit.{Edit}
 use Rattle.khiin.specs.declared.converter.Edit.the-variants.{Behind, Last, LastTwo, Compose}
 
 -- ── a body that ends in a stop
@@ -358,6 +363,47 @@ module _ (t : Table) (k : ToneKeys) (key : ℕ) (given : List ℕ) (tone : Tone)
             pub step-bare : (not (isFirst tone) || hasToneLetter t given) ≡ false → Step (bare t key rest)
             unfolding step composedStep
             step-bare y = rw (r, a, d, o, u, y)
+
+-- ── an ASCII text takes none of the branches before the last
+module _ (low before end : ℕ) (h : end ≤ 0x7F) where
+  low-end : editBy low before end ≡ Compose
+  unfolding editBy
+  low-end =
+      rw (
+        ne-eqb end (point "ⁿ") (λ e. omega arith),
+        ne-eqb end (point "ᴺ") (λ e. omega arith),
+        ne-eqb end 0x0358 (λ e. omega arith),
+        ne-eqb end 0x0324 (λ e. omega arith),
+        ne-eqb end 0x1E73 (λ e. omega arith),
+        ne-eqb end 0x1E72 (λ e. omega arith),
+        and-false (eqb low (point "n")),
+        and-false (eqb low (point "u") || eqb low (point "o")),
+        and-false (eqb low (point "o")),
+        and-false (eqb low (point "u")),
+      )
+
+module _ (k : ToneKeys) (key : ℕ) (s : List ℕ) (h : allAscii s ≡ true) where
+  -- its tone is the first or the fourth, which have no key
+  ascii-repeats : repeatsTone k key (unmarkedTone s) ≡ false
+  unfolding repeatsTone unmarkedTone
+  ascii-repeats =
+      either (endsInAny stopEndings s)
+      (λ y. ap (λ (b : Bool). repeatsTone k key (pickTone b T4 T1)) y)
+      (λ n. ap (λ (b : Bool). repeatsTone k key (pickTone b T4 T1)) n)
+
+  ascii-edit : editOf k key (unmarkedTone s) s ≡ Compose
+  unfolding last
+  ascii-edit =
+      sym (edit-else k key (unmarkedTone s) s ascii-repeats)
+      ∙ edit-at key s
+      ∙ low-end (lower key) (lower (last (butLast 1 s))) (last s) (ascii-at s (length s - 1) h)
+
+  pub ascii-step : stepOf unicode16 k key s ≡ composedOf unicode16 k key (unmarkedTone s) s
+  unfolding stepOf
+  ascii-step =
+      step-is unicode16 k key s (strip unicode16 s .tone) (strip unicode16 s .rest) (letter-stripped unicode16 s)
+      ∙ ap₂ (λ (o : Tone) (r : List ℕ). edited unicode16 k (editOf k key o s) key o r) (ascii-tone s h) (ascii-stripped s h)
+      ∙ ap (λ (e : Edit). edited unicode16 k e key (unmarkedTone s) s) ascii-edit
 
 -- ── composing
 module _ (t : Table) (k : ToneKeys) (key : ℕ) (tone : Tone) (rest : List ℕ) where

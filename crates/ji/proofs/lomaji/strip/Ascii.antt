@@ -11,10 +11,10 @@ use Rattle.ucd.specs.Unicode16.{unicode16}
 use Rattle.ucd.proofs.Unicode16.{low-starter, low-atom, full-itself}
 use Rattle.ji.specs.Text.{allAscii}
 use Rattle.ji.specs.Utf8.{encode}
-use Rattle.ji.specs.Nfd.{NoPair, insert, order}
+use Rattle.ji.specs.Nfd.{NoPair, insert, order, nfd}
 use Rattle.ji.specs.Tone.{toneNumber}
 use Rattle.ji.specs.Reply.{placed, good, checkText}
-use Rattle.ji.specs.Lomaji.Strip.{withoutMarks, droppedMarks, lastTone, unmarkedTone, toneOr, strippedReply, stripCall}
+use Rattle.ji.specs.Lomaji.Strip.{withoutMarks, droppedMarks, lastTone, unmarkedTone, toneOr, stripped, strippedReply, strip, stripCall}
 use Rattle.ji.specs.declared.tone.Tone.{Tone}
 use Rattle.ji.specs.declared.tone.Tone.the-variants.{None}
 use Rattle.ji.proofs.Decomposition.{full-nil, full-cons}
@@ -53,14 +53,30 @@ unfolding droppedMarks
 ascii-dropped [] h = refl
 ascii-dropped (x ∷ s) h = dropped-other x s (low-no-mark x (omega (arith, ascii-low x s h))) ∙ ascii-dropped s (ascii-rest x s h)
 
+ascii-itself : (s : List ℕ) → allAscii s ≡ true → order unicode16 (full unicode16 s) ≡ s
+ascii-itself s h = ap (order unicode16) (ascii-full s h) ∙ ascii-order s h
+
+ascii-nfd : (s : List ℕ) → allAscii s ≡ true → nfd unicode16 s ≡ s
+unfolding nfd
+ascii-nfd s h = ascii-itself s h
+
+pub ascii-stripped : (s : List ℕ) → allAscii s ≡ true → strip unicode16 s .rest ≡ s
+unfolding stripped
+ascii-stripped s h = ap withoutMarks (ascii-nfd s h) ∙ ascii-without s h
+
+pub ascii-tone : (s : List ℕ) → allAscii s ≡ true → strip unicode16 s .tone ≡ unmarkedTone s
+unfolding stripped
+ascii-tone s h =
+    ap₂ (λ (o : Tone) (ms : List ℕ). lastTone o ms) (ap (λ (u : List ℕ). unmarkedTone (encode u)) (ascii-stripped s h) ∙ ap unmarkedTone (ascii-bytes s h)) (ap droppedMarks (ascii-nfd s h) ∙ ascii-dropped s h)
+    ∙ last-none (unmarkedTone s)
+
 -- what the call replies to it
 pub ascii-strip : (s buffer : List ℕ) → allAscii s ≡ true → length s ≤ 256
     → placed (toneNumber (toneOr None (unmarkedTone s))) s buffer ≡ stripCall unicode16 s buffer
 ascii-strip s buffer h short =
     let plain : encode (withoutMarks s) ≡ s = ap encode (ascii-without s h) ∙ ascii-bytes s h in
     let unmarked : lastTone None (droppedMarks s) ≡ None = ap (lastTone None) (ascii-dropped s h) ∙ last-none None in
-    let itself : order unicode16 (full unicode16 s) ≡ s = ap (order unicode16) (ascii-full s h) ∙ ascii-order s h in
     ap₂ (λ (t : Tone) (u : List ℕ). placed (toneNumber (toneOr t (unmarkedTone u))) u buffer) (sym unmarked) (sym plain)
     ∙ stripped-reply s buffer
-    ∙ ap (λ (u : List ℕ). strippedReply u buffer) (sym (ap (order unicode16) (spread-full unicode16 s) ∙ itself))
+    ∙ ap (λ (u : List ℕ). strippedReply u buffer) (sym (ap (order unicode16) (spread-full unicode16 s) ∙ ascii-itself s h))
     ∙ strip-good unicode16 s buffer s (check-within unicode16 s short ∙ ascii-good s h)

@@ -1,37 +1,90 @@
 use mathlib.Core.Path.{_≡_, sym, ap, ap₂, _∙_, subst}
+use mathlib.Core.Bool.{true}
 use mathlib.Core.List.{List, [], _∷_, _++_}
+use mathlib.Core.Logic.{_⊎_, inl, inr}
 use Prim.Native.Nat.{ℕ, _+_, _-_, _*_, _/_, _≤_, _<_}
 use lib.ListN.{length, take}
 use Rattle.ji.specs.Unicode.{unicode16}
+use Rattle.ji.specs.Text.{allAscii}
 use Rattle.ji.specs.Utf8.{encode}
 use Rattle.ji.specs.Reply.{Reply, placed, textCall, good, checkText}
-use Rattle.ji.specs.Lomaji.Strip.{strip, stripReply}
+use Rattle.ji.specs.Lomaji.Strip.{strip, stripReply, unmarkedTone}
 use Rattle.ji.specs.declared.tone.Tone.{Tone}
 use Rattle.ji.specs.declared.lomaji.strip.Strip.{Strip}
 use Rattle.ji.specs.declared.lomaji.strip.Strip.the-variants.{Done}
 use Rattle.ji.specs.declared.lomaji.strip.StripResult.{StripResult}
 use Rattle.ji.proofs.Writing.{written-length, written-take}
 use Rattle.ji.proofs.Replies.{check-within, text-refused, text-good}
+use Rattle.ji.proofs.unicode.Ascii.{ascii-bytes, ascii-members, ascii-good}
 use Rattle.ji.proofs.unicode.Checked.{Passed, check-passed}
 use Rattle.ji.proofs.lomaji.keys.Bytes.{stripped-bytes}
 use Rattle.ji.proofs.lomaji.strip.Answers.{stripped-inside, stripped-points, Stripping, strip-done, strip-not}
 use Rattle.ji.proofs.lomaji.tone_letter.Marks.{letter-stripped}
-use Rattle.khiin.specs.Telex.{editOf, edited, stepOf, RestIn}
+use Rattle.khiin.specs.Telex.{editOf, composedOf, edited, stepOf, RestIn}
 use Rattle.khiin.specs.declared.converter.Edit.{Edit}
-use Rattle.khiin.proofs.converter.Laws.{step-is}
+use Rattle.khiin.specs.declared.converter.Edit.the-variants.{Compose}
+use Rattle.khiin.proofs.converter.Laws.{step-is, ascii-step}
 use borrow.Author.Needs.{needs}
 use native.Mathlib.Omega.{arith}
 use Rattle.khiin.proofs.converter.step_in.Statement.{statement}
 use Rattle.khiin.proofs.converter.step_in.Tie as tie
 
--- the text was stripped
-module _ (c : tie.After-strip-tone-diacritic) where
-  abbrev begin : tie.Start
-  begin = c .before .before .before .before .before .before
+-- what is known of the stripped text, its tone and its branch: it is there, has room behind it, and the branch makes the answer of it
+abbrev Known : tie.Start → List ℕ → ℕ → Tone → Edit → Type 0
+Known s bytes n tone edit =
+    (2 * n ≤ 5 * length (s .args .text .now)) × (length bytes ≡ length (s .args .bytes .now))
+    × ((h : RestIn bytes n)
+    × (placed 0 (encode (edited unicode16 (s .args .k) edit (s .args .key) tone (h .rest))) (s .args .out .now)
+    ≡ textCall unicode16 (stepOf unicode16 (s .args .k) (s .args .key)) (s .args .text .now) (s .args .out .now)))
 
-  done : (r : StripResult) → c .strip-tone-diacritic .result ≡ Done r → Stripping (begin .args .text .now) (begin .args .bytes .now) (c .strip-tone-diacritic .last .1 .0) r
+-- ── an ASCII text was copied
+module _ (c : tie.After-copy-ascii) where
+  abbrev first : tie.Start
+  first = c .before .before .before .before .before .before
+
+  abbrev copied : List ℕ
+  copied = c .copy-ascii .last .1 .0
+
+  module _ (yes : c .copy-ascii .result ≡ true) where
+    ascii : allAscii (first .args .text .now) ≡ true
+    ascii = c .copy-ascii .ensures yes .0
+
+    ascii-in : RestIn copied (length (first .args .text .now))
+    ascii-in =
+        let p = first .pre .1 in
+        record {
+          rest = first .args .text .now;
+          inside = ascii-members (first .args .text .now) ascii;
+          few = omega (arith, p);
+          written = c .copy-ascii .ensures yes .1 ∙ sym (ascii-bytes (first .args .text .now) ascii);
+        }
+
+    ascii-known : (o : Tone) → o ≡ unmarkedTone (first .args .text .now) → Known first copied (length (first .args .text .now)) o Compose
+    unfolding ascii-in
+    ascii-known o is =
+        let a = first .args in
+        let out : List ℕ → Reply = λ l. placed 0 (encode l) (a .out .now) in (
+          omega arith,
+          c .copy-ascii .kept .1 .0,
+          (
+            ascii-in,
+            ap (λ (x : Tone). out (composedOf unicode16 (a .k) (a .key) x (a .text .now))) is
+                ∙ ap out (sym (ascii-step (a .k) (a .key) (a .text .now) ascii))
+                ∙ text-good unicode16 (stepOf unicode16 (a .k) (a .key)) (a .text .now) (a .out .now) (a .text .now) (check-within unicode16 (a .text .now) (first .pre .1) ∙ ascii-good (a .text .now) ascii),
+          ),
+        )
+
+-- ── any other text was stripped
+module _ (c : tie.After-strip-tone-diacritic) where
+  abbrev copy-at : tie.After-copy-ascii
+  copy-at = c .before .before .before .before .before
+
+  abbrev begin : tie.Start
+  begin = first copy-at
+
+  done : (r : StripResult) → c .strip-tone-diacritic .result ≡ Done r → Stripping (begin .args .text .now) (copied copy-at) (c .strip-tone-diacritic .last .1 .0) r
   done r is =
-      strip-done (begin .args .text .now) (begin .args .bytes .now) (c .strip-tone-diacritic .last .1 .0) r
+      strip-done (begin .args .text .now) (copied copy-at) (c .strip-tone-diacritic .last .1 .0) r
       (ap (λ (x : Strip). stripReply x (c .strip-tone-diacritic .last .1 .0)) (sym is) ∙ c .strip-tone-diacritic .ensures)
 
 passed : (text u : List ℕ) → checkText unicode16 text ≡ good u → Passed unicode16 256 text u
@@ -52,7 +105,7 @@ module _ (c : tie.After-edit-of) where
   abbrev bytesIn : List ℕ
   bytesIn = strip-at .strip-tone-diacritic .last .1 .0
 
-  stripping : Stripping (start .args .text .now) (start .args .bytes .now) bytesIn resultOf
+  stripping : Stripping (start .args .text .now) (copied (copy-at strip-at)) bytesIn resultOf
   stripping = done strip-at resultOf (c .before .before .before .result .given .1)
 
   abbrev u : List ℕ
@@ -91,11 +144,51 @@ module _ (c : tie.After-edit-of) where
       ∙ ap out (sym (step-is unicode16 (a .k) (a .key) u (strip unicode16 u .tone) rest (letter-stripped unicode16 u)))
       ∙ text-good unicode16 (stepOf unicode16 (a .k) (a .key)) (a .text .now) (a .out .now) u (stripping .good)
 
+  stripped-known : Known start bytesIn (resultOf .len .0) (resultOf .tone) (c .edit-of .result)
+  unfolding rest-in
+  stripped-known = (bytes-few, written-length (stripping .written) ∙ copy-at strip-at .copy-ascii .kept .1 .0, (rest-in, finished))
+
+-- ── either way
+one-of : {A B C : Type 0} → A ⊎ B → (A → C) → (B → C) → C
+one-of (inl x) f g = f x
+one-of (inr y) f g = g y
+
+known : (j : tie.Joined1) → Known (first (j .before .before .before)) (j .if1 .bytes) (j .if1 .n) (j .if1 .tone) (j .if1 .edit)
+known j =
+    one-of (j .if1 .came)
+    (λ w. rw (w .2, w .3, w .4, w .5) (ascii-known (j .before .before .before) (w .0 .taken) (w .1 .result) (w .1 .ensures)))
+    (λ w.
+    let stripped-at : tie.After-strip-tone-diacritic = record { before = record { before = record { before = j .before; if1 = w .0 }; strip-tone-diacritic-arg = w .1 }; strip-tone-diacritic = w .2 } in
+    let result-at : tie.After-result = record { before = record { before = record { before = record { before = stripped-at; bytes2 = w .3 }; slice-known5 = w .4 }; match = w .5 }; result = w .6 } in
+    let c : tie.After-edit-of = record { before = record { before = record { before = result-at; known-told2 = w .7 }; len = w .8 }; edit-of = w .9 } in
+    rw (w .10, w .11, w .12, w .13) (stripped-known c))
+
+copy-ascii-requires : tie.Need-copy-ascii-requires
+copy-ascii-requires c κs = let p = c .before .before .before .before .before .pre .2 in omega (arith, p)
+
+unmarked-tone-requires : tie.Need-unmarked-tone-requires
+unmarked-tone-requires c κs = search needs
+
 strip-tone-diacritic-requires : tie.Need-strip-tone-diacritic-requires
 strip-tone-diacritic-requires c κs = search needs
 
 enum-known-why : tie.Need-enum-known-why
 enum-known-why c = search needs
+
+same-length : tie.Need-same-length
+same-length c =
+    let d = c .before .before .before .before .before in
+    d .strip-tone-diacritic .kept .1 .0 ∙ copy-at d .copy-ascii .kept .1 .0
+
+returns : tie.Need-returns
+returns c =
+    let d = c .before .before .before .before .before in
+    let a = begin d in
+    let why = c .before .why .given in
+    let room : 5 * length (a .args .text .now) ≤ 2 * length (copied (copy-at d)) = let p = a .pre .2 in omega (arith, p, copy-at d .copy-ascii .kept .1 .0) in
+    text-refused unicode16 (stepOf unicode16 (a .args .k) (a .args .key)) (a .args .text .now) (a .args .out .now) (why .0 .0)
+    (strip-not (a .args .text .now) (copied (copy-at d)) (d .strip-tone-diacritic .last .1 .0) (why .0 .0) room
+    (ap (λ (x : Strip). stripReply x (d .strip-tone-diacritic .last .1 .0)) (sym (why .1)) ∙ d .strip-tone-diacritic .ensures))
 
 enum-known-result : tie.Need-enum-known-result
 enum-known-result c = search needs
@@ -105,27 +198,15 @@ edit-of-requires c κs = search needs
 
 finish-requires : tie.Need-finish-requires
 finish-requires c κs =
-    let e = c .before .before .before in
-    let s = start e in
-    let w = written-length (stripping e .written) in
-    let few = bytes-few e in
-    (s .pre .0, omega (arith, few, s .pre .2, w), omega (arith, few, s .pre .2, s .pre .3, w), omega (arith, few, s .pre .2, s .pre .4, w), rest-in e)
-
-same-length : tie.Need-same-length
-same-length c = search needs
-
-returns : tie.Need-returns
-returns c =
-    let d = c .before .before .before .before .before in
-    let a = begin d in
-    let why = c .before .why .given in
-    let room : 5 * length (a .args .text .now) ≤ 2 * length (a .args .bytes .now) = let p = a .pre .2 in omega (arith, p) in
-    text-refused unicode16 (stepOf unicode16 (a .args .k) (a .args .key)) (a .args .text .now) (a .args .out .now) (why .0 .0)
-    (strip-not (a .args .text .now) (a .args .bytes .now) (d .strip-tone-diacritic .last .1 .0) (why .0 .0) room
-    (ap (λ (x : Strip). stripReply x (d .strip-tone-diacritic .last .1 .0)) (sym (why .1)) ∙ d .strip-tone-diacritic .ensures))
+    let j = c .before .before .before in
+    let s = first (j .before .before .before) in
+    let n = known j in
+    (s .pre .0, omega (arith, n .0, n .1, s .pre .2), omega (arith, n .0, s .pre .2, s .pre .3), omega (arith, n .0, s .pre .2, s .pre .4), n .2 .0)
 
 same-length-2 : tie.Need-same-length-2
-same-length-2 c = search needs
+same-length-2 c =
+    let f = c .before .before .before .before .before .before in
+    f .finish .kept .1 .1 .1 .1 .0 ∙ known (f .before .before .before .before) .1
 
 same-length-3 : tie.Need-same-length-3
 same-length-3 c = search needs
@@ -134,23 +215,24 @@ same-length-4 : tie.Need-same-length-4
 same-length-4 c = search needs
 
 returns-2 : tie.Need-returns-2
-unfolding rest-in
 returns-2 c =
-    let p = c .before .before .before .before .before .before in
-    let e = p .before .before .before .before in
-    p .finish .ensures (rest-in e) ∙ finished e
+    let f = c .before .before .before .before .before .before in
+    let n = known (f .before .before .before .before) in
+    f .finish .ensures (n .2 .0) ∙ n .2 .1
 
 pub step-in-spec : {M : Type 1} → statement M
 step-in-spec =
     tie.close
     (tie.spec
+    copy-ascii-requires
+    unmarked-tone-requires
     strip-tone-diacritic-requires
     enum-known-why
+    same-length
+    returns
     enum-known-result
     edit-of-requires
     finish-requires
-    same-length
-    returns
     same-length-2
     same-length-3
     same-length-4
