@@ -40,7 +40,7 @@ struct Tuned;
 
 impl Tuned {
     fn has(number: usize) -> bool {
-        !matches!(NAMES[number], "tone_letter" | "strip_khin" | "has_tone_letter" | "keys")
+        !matches!(NAMES[number], "strip_khin" | "has_tone_letter" | "keys")
     }
 }
 
@@ -53,6 +53,7 @@ impl Subject for Tuned {
         let Question { call, text, second } = question;
         match call {
             Call::Strip => tuned::strip(text, out),
+            Call::ToneLetter => tuned::tone_letter(text),
             Call::Nfd => tuned::nfd(text, out),
             Call::Nfc => tuned::nfc(text, out),
             Call::FromRaw => tuned::from_raw(text, out),
@@ -62,7 +63,7 @@ impl Subject for Tuned {
             Call::Telex { key, mode } => tuned::telex(text, key, mode, second.try_into().unwrap(), out),
             Call::Align => tuned::align(text, second, out),
             Call::Listing { from } => tuned::listing(text, from, out),
-            Call::ToneLetter | Call::StripKhin | Call::HasToneLetter | Call::Keys { .. } => unreachable!(),
+            Call::StripKhin | Call::HasToneLetter | Call::Keys { .. } => unreachable!(),
         }
     }
 }

@@ -13,11 +13,13 @@ mod compose;
 mod entry;
 mod syllable;
 mod telex;
+mod tone_letter;
 
 pub use compose::compose;
 pub use entry::{keying, listing};
 pub use syllable::{align, candidate, from_raw};
 pub use telex::telex;
+pub use tone_letter::tone_letter;
 
 use crate::call::Reply;
 use crate::tables::*;

@@ -46,6 +46,18 @@ fn the_stand_in_passes() {
     assert_eq!(differences_of_khiin(&StandIn), 0);
 }
 
+/// The tone letter by itself: the Rust takes some 0.1 ms for each text.
+#[test]
+fn the_tone_letter_passes() {
+    let mut run = Run::new(&StandIn);
+    inputs::tuples(&inputs::telling(), 2, &mut |text| run.feed(Calls::LETTER, text));
+    inputs::tuples(&inputs::letters()[..14], 3, &mut |text| run.feed(Calls::LETTER, text));
+    for text in inputs::edges() {
+        run.feed(Calls::LETTER, &text);
+    }
+    assert_eq!(run.differences(), 0);
+}
+
 fn is(question: Question, number: usize) -> bool {
     question.call.number() == number
 }
