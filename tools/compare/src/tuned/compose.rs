@@ -13,7 +13,7 @@ use super::*;
 /// p t k h m n i; n; g. Bits 8 to 10: it may be the first letter of a respelled
 /// pair that begins with o, with e, with n; bits 12 to 14: the second letter of such
 /// a pair. Bit 15: it is no ASCII. Bits 16 on: its rank as the tone letter by itself.
-pub(super) static LETTERS: [u32; 256] = letters();
+static LETTERS: [u32; 256] = letters();
 
 const FIRST: u32 = 8;
 const SECOND: u32 = 12;
@@ -54,7 +54,7 @@ const fn letter(small: u8) -> u32 {
 
 /// Looks for the tone letter while bytes go by: the best rank so far and its place,
 /// as one number, so that the smaller one wins.
-pub(super) struct Search {
+struct Search {
     best: u32,
     last: u32,
     before: u32,
@@ -64,12 +64,12 @@ const NONE: u32 = NO_RANK << RANK;
 
 impl Search {
     #[inline(always)]
-    pub(super) fn new() -> Search {
+    fn new() -> Search {
         Search { best: NONE, last: 0, before: 0 }
     }
 
     #[inline(always)]
-    pub(super) fn step(&mut self, letter: u32, place: usize) {
+    fn step(&mut self, letter: u32, place: usize) {
         let place = place as u32;
         self.best = self.best.min((letter >> RANK << RANK) | place);
         // The pattern of three: its second letter, of rank 0.
@@ -83,13 +83,6 @@ impl Search {
         self.last = letter;
     }
 
-    /// Something went by that is no letter, so that no pattern goes across it.
-    #[inline(always)]
-    pub(super) fn cut(&mut self) {
-        self.before = 0;
-        self.last = 0;
-    }
-
     /// Whether the pattern of three is found: nothing behind it can be better.
     #[inline(always)]
     fn done(&self) -> bool {
@@ -97,7 +90,7 @@ impl Search {
     }
 
     #[inline(always)]
-    pub(super) fn place(&self) -> Option<usize> {
+    fn place(&self) -> Option<usize> {
         if self.best >= NONE {
             None
         } else {

@@ -94,7 +94,7 @@ impl Part {
 
 /// The high bit of each byte of the word that equals `byte`.
 #[inline(always)]
-fn equal(word: u64, byte: u8) -> u64 {
+pub(super) fn equal(word: u64, byte: u8) -> u64 {
     let other = word ^ byte as u64 * 0x0101_0101_0101_0101;
     !((other & !HIGH_BITS) + !HIGH_BITS | other) & HIGH_BITS
 }
