@@ -30,6 +30,11 @@ pub fn strip(text: &[u8], out: &mut [u8]) -> Reply {
 }
 
 #[inline(always)]
+pub fn tone_letter(text: &[u8]) -> Reply {
+    unsafe { rf_tone_letter(text.as_ptr(), text.len()) }
+}
+
+#[inline(always)]
 pub fn nfd(text: &[u8], out: &mut [u8]) -> Reply {
     unsafe { wb_nfd(text.as_ptr(), text.len(), out.as_mut_ptr(), out.len()) }
 }
@@ -105,7 +110,7 @@ impl Subject for Archive {
         let Question { call, text, second } = question;
         match call {
             Call::Strip => strip(text, out),
-            Call::ToneLetter => unsafe { rf_tone_letter(text.as_ptr(), text.len()) },
+            Call::ToneLetter => tone_letter(text),
             Call::Nfd => nfd(text, out),
             Call::Nfc => nfc(text, out),
             Call::StripKhin => unsafe { wb_strip_khin(text.as_ptr(), text.len()) },

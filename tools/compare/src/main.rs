@@ -43,7 +43,7 @@ const USAGE: &str = "usage: compare compare [SEED [CALL]]
        compare vectors DIR
        compare normalization FILE DIR
        compare replay FILE...
-       compare speed [PART]";
+       compare speed [calls [PART] | entries | growth | docs FOLDER]";
 
 fn main() -> ExitCode {
     let words: Vec<String> = env::args().skip(1).collect();
@@ -67,8 +67,7 @@ fn act(words: &[&str]) -> io::Result<ExitCode> {
             normalization::write(Path::new(file), Path::new(folder)).map(|_| ExitCode::SUCCESS)
         }
         ["replay", files @ ..] if !files.is_empty() => replayed(files),
-        ["speed"] => Ok(measured("")),
-        ["speed", part] => Ok(measured(part)),
+        ["speed", words @ ..] => speed::run(words).map(|_| ExitCode::SUCCESS),
         _ => Err(wrong(USAGE)),
     }
 }
@@ -85,11 +84,6 @@ fn compared(seed: u64, only: Option<&str>) -> ExitCode {
     let run = compare::run(SUBJECT, seed, only);
     run.print(seed);
     ExitCode::from((run.differences() > 0) as u8)
-}
-
-fn measured(part: &str) -> ExitCode {
-    speed::run(part);
-    ExitCode::SUCCESS
 }
 
 fn replayed(files: &[&str]) -> io::Result<ExitCode> {
