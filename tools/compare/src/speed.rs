@@ -2,6 +2,7 @@
 
 mod calls;
 mod driver;
+mod entries;
 mod job;
 mod report;
 mod rows;
@@ -19,6 +20,7 @@ pub fn run(words: &[&str]) -> io::Result<()> {
         [] => everything(&mut report),
         ["calls"] => rows::run("", &mut report),
         ["calls", part] => rows::run(part, &mut report),
+        ["entries"] => entries::run(&mut report),
         ["docs", folder] => {
             everything(&mut report);
             report.write(Path::new(folder))?;
@@ -36,4 +38,5 @@ pub fn run(words: &[&str]) -> io::Result<()> {
 
 fn everything(report: &mut Report) {
     rows::run("", report);
+    entries::run(report);
 }
