@@ -3,7 +3,9 @@
 mod calls;
 mod driver;
 mod entries;
+mod growth;
 mod job;
+mod plot;
 mod report;
 mod rows;
 mod texts;
@@ -21,6 +23,7 @@ pub fn run(words: &[&str]) -> io::Result<()> {
         ["calls"] => rows::run("", &mut report),
         ["calls", part] => rows::run(part, &mut report),
         ["entries"] => entries::run(&mut report),
+        ["growth"] => growth::run(&mut report),
         ["docs", folder] => {
             everything(&mut report);
             report.write(Path::new(folder))?;
@@ -39,4 +42,5 @@ pub fn run(words: &[&str]) -> io::Result<()> {
 fn everything(report: &mut Report) {
     rows::run("", report);
     entries::run(report);
+    growth::run(report);
 }
