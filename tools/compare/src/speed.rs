@@ -11,6 +11,7 @@ mod rows;
 mod texts;
 
 use report::Report;
+use std::fs;
 use std::io;
 use std::path::Path;
 
@@ -25,8 +26,10 @@ pub fn run(words: &[&str]) -> io::Result<()> {
         ["entries"] => entries::run(&mut report),
         ["growth"] => growth::run(&mut report),
         ["docs", folder] => {
+            let folder = Path::new(folder);
+            report::check_page(folder)?;
             everything(&mut report);
-            report.write(Path::new(folder))?;
+            report.write(folder)?;
         }
         _ => {
             return Err(io::Error::new(
@@ -40,7 +43,17 @@ pub fn run(words: &[&str]) -> io::Result<()> {
 }
 
 fn everything(report: &mut Report) {
+    if let Some(name) = processor() {
+        report.sum_up(&format!("- Processor: {name}."));
+    }
     rows::run("", report);
     entries::run(report);
     growth::run(report);
+}
+
+/// What Linux calls the processor.
+fn processor() -> Option<String> {
+    let all = fs::read_to_string("/proc/cpuinfo").ok()?;
+    let line = all.lines().find(|line| line.starts_with("model name"))?;
+    line.split_once(':').map(|(_, name)| name.trim().to_string())
 }

@@ -258,8 +258,8 @@ fn sum_up(ways: &Ways, times: &[Time], report: &mut Report) {
     for way in ["call by call", "listing"] {
         let Some(ours) = of(&format!("archive, {way}")) else { continue };
         let tuned = of(&format!("hand-tuned Rust, {way}"));
-        report.sum_up(format!(
-            "- {} entries, {way}: {} entries a second, {} times the Rust's; {} times the hand-tuned time.\n",
+        report.sum_up(&format!(
+            "- {} entries, {way}: {} entries a second, {} times the Rust's; {} times the hand-tuned time.",
             grouped(ENTRIES as u64),
             grouped((ENTRIES as f64 / ours * 1e9) as u64),
             ratio(of("Rust"), Some(ours)),

@@ -41,6 +41,17 @@ pub fn ratio(above: Option<f64>, below: Option<f64>) -> String {
     }
 }
 
+/// The names of the tables of the page.
+const TABLES: [&str; 6] = ["summary", "calls", "entries", "bytes of syllables", "bytes of letters", "parts"];
+
+/// Whether the page in a folder has the marks of every table, before anything is measured.
+pub fn check_page(folder: &Path) -> io::Result<()> {
+    let page = fs::read_to_string(folder.join(PAGE))?;
+    TABLES.iter().try_for_each(|name| replaced(&page, name, "").map(drop))
+}
+
+const PAGE: &str = "SPEED.md";
+
 impl Report {
     pub fn table(&mut self, name: &'static str, text: String) {
         self.tables.push((name, text));
@@ -50,8 +61,9 @@ impl Report {
         self.plots.push((file, text));
     }
 
-    pub fn sum_up(&mut self, text: String) {
-        self.summary += &text;
+    /// One more point of the summary.
+    pub fn sum_up(&mut self, point: &str) {
+        self.summary += &wrapped(point);
     }
 
     /// The three sides of a row, a line for each.
@@ -75,9 +87,9 @@ impl Report {
         print!("{}", self.summary);
     }
 
-    /// Puts the tables between their marks in SPEED.md, and writes the other files.
+    /// Puts the tables between their marks in the page, and writes the other files.
     pub fn write(&self, folder: &Path) -> io::Result<()> {
-        let page = folder.join("SPEED.md");
+        let page = folder.join(PAGE);
         let mut text = fs::read_to_string(&page)?;
         for (name, table) in &self.tables {
             text = replaced(&text, name, table)?;
@@ -92,6 +104,25 @@ impl Report {
 }
 
 const COLUMNS: &str = "table\trow\tsize\tside\tmedian\ttenth percentile\tninetieth percentile\n";
+
+/// A point of a list in lines of a width that is easy to read.
+fn wrapped(point: &str) -> String {
+    const WIDTH: usize = 170;
+    let (mut text, mut width) = (String::new(), 0);
+    for word in point.split(' ') {
+        let size = word.chars().count();
+        if width > 0 && width + 1 + size > WIDTH {
+            text += "\n  ";
+            width = 2;
+        } else if width > 0 {
+            text.push(' ');
+            width += 1;
+        }
+        text += word;
+        width += size;
+    }
+    text + "\n"
+}
 
 /// The page with another text between the marks of a name.
 fn replaced(page: &str, name: &str, text: &str) -> io::Result<String> {
@@ -119,6 +150,15 @@ mod tests {
         );
         assert_eq!(ratio(Some(3.0), Some(2.0)), "1.50");
         assert_eq!(ratio(Some(3000.0), Some(2.0)), "1,500");
+    }
+
+    #[test]
+    fn points_are_wrapped() {
+        assert_eq!(wrapped("- a b"), "- a b\n");
+        let long = "word ".repeat(40);
+        let lines = wrapped(long.trim_end());
+        assert!(lines.lines().all(|line| line.len() <= 170) && lines.lines().count() == 2);
+        assert_eq!(lines.split_whitespace().count(), 40);
     }
 
     #[test]

@@ -230,13 +230,13 @@ impl Reached {
         if self.against_rust > 0 {
             let ahead = self.against_rust - self.behind.len();
             let text = format!("- {title}: {ahead} of {} rows ahead of the Rust", self.against_rust);
-            report.sum_up(text + &but(&self.behind));
+            report.sum_up(&(text + &but(&self.behind)));
         }
         if self.against_tuned > 0 {
             let within = self.against_tuned - self.above.len();
             let text =
                 format!("- {title}: {within} of {} within twice the hand-tuned Rust", self.against_tuned);
-            report.sum_up(text + &but(&self.above));
+            report.sum_up(&(text + &but(&self.above)));
         }
     }
 }
@@ -244,9 +244,9 @@ impl Reached {
 /// The rows that miss an aim, with which a sentence ends.
 fn but(missed: &[String]) -> String {
     if missed.is_empty() {
-        return ".\n".to_string();
+        return ".".to_string();
     }
-    format!("; not: {}.\n", missed.join("; "))
+    format!("; not: {}.", missed.join("; "))
 }
 
 #[cfg(test)]
