@@ -152,6 +152,30 @@ pub fn run(report: &mut Report) {
     report.plot("growth-bytes.svg", bytes_plot(&syllables, &letters));
     let parts = by_parts(report);
     report.plot("growth-parts.svg", parts_plot(&parts));
+    let rows = |grown: &[Grown]| grown.concat();
+    sum_up("1 to 256 bytes of syllables, all calls", &rows(&syllables), report);
+    sum_up("1 to 256 bytes of letters, all calls", &rows(&letters), report);
+    let by_call: Vec<Row> = parts.iter().map(|row| row.by_call).collect();
+    let by_listing: Vec<Row> =
+        parts.iter().map(|row| Row { rust: row.by_call.rust, ..row.by_listing }).collect();
+    sum_up("1 to 16 parts, all keyings call by call", &by_call, report);
+    sum_up("1 to 16 parts, all keyings by listing", &by_listing, report);
+}
+
+/// How many rows are ahead of the Rust, and how many within twice the hand-tuned one.
+fn sum_up(title: &str, rows: &[Row], report: &mut Report) {
+    let ours = |row: &Row| row.archive.map(|time| time.median);
+    if rows.iter().all(|row| ours(row).is_none()) {
+        return;
+    }
+    let ahead = |row: &&Row| ours(row).zip(row.rust).is_some_and(|(ours, rust)| ours < rust.median);
+    let within = |row: &&Row| ours(row).is_some_and(|ours| ours <= 2.0 * row.tuned.median);
+    report.sum_up(&format!(
+        "- {title}: {} of {} points ahead of the Rust, {} within twice the hand-tuned Rust.",
+        rows.iter().filter(ahead).count(),
+        rows.len(),
+        rows.iter().filter(within).count()
+    ));
 }
 
 /// A curve for each side that was measured.
