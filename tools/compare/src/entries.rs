@@ -218,7 +218,7 @@ fn combinations(parts: &[Part]) -> Vec<Vec<[Form; 2]>> {
         let pairs = part.pairs();
         all = all
             .iter()
-            .flat_map(|begun| pairs.iter().map(|pair| [&begun[..], &[pair.clone()]].concat()))
+            .flat_map(|begun| pairs.iter().map(|pair| [&begun[..], std::slice::from_ref(pair)].concat()))
             .collect();
     }
     all

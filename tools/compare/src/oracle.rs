@@ -231,8 +231,8 @@ mod tests {
         all
     }
 
-    fn with(order: &Vec<usize>, at: usize, item: usize) -> Vec<usize> {
-        let mut longer = order.clone();
+    fn with(order: &[usize], at: usize, item: usize) -> Vec<usize> {
+        let mut longer = order.to_vec();
         longer.insert(at, item);
         longer
     }

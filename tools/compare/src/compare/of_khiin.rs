@@ -11,7 +11,7 @@ use crate::rules;
 /// The families of each call or, where one is named, of that call alone. Each
 /// family draws from a seed of its own, as those of ji do.
 pub fn run(run: &mut Run, seed: u64, only: Option<&str>) {
-    let wanted = |call| only.map_or(true, |name| name == call);
+    let wanted = |call| only.unwrap_or(call) == call;
     if wanted("from_raw") {
         raw_short(run);
         raw_random(run, &mut Maker::new(seed ^ 11));

@@ -40,7 +40,7 @@ fn with_e(rest: String, key: char) -> String {
 
 /// Whether the body ends in p, t, k or h when no nasal sign is counted.
 fn stopped(body: &str) -> bool {
-    let low = body.to_lowercase().replace('\u{207f}', "").replace('\u{1d3a}', "").replace("nn", "");
+    let low = body.to_lowercase().replace(['\u{207f}', '\u{1d3a}'], "").replace("nn", "");
     low.ends_with(['p', 't', 'k', 'h'])
 }
 

@@ -658,7 +658,7 @@ impl Points {
     }
 
     /// Each such sign goes and one stands at the end, unless one stands there already.
-    fn to_end(&mut self, sign: u16) {
+    fn move_to_end(&mut self, sign: u16) {
         if self.all().last() == Some(&sign) || !self.all().contains(&sign) {
             return;
         }
@@ -714,8 +714,8 @@ fn by_passes(raw: &[u8], body: &[u8], tone: u64, khin: bool, out: &mut [u8]) -> 
     let mut points = Points::of(body);
     points.vowels();
     points.nasals();
-    points.to_end(SMALL_SIGN);
-    points.to_end(CAPITAL_SIGN);
+    points.move_to_end(SMALL_SIGN);
+    points.move_to_end(CAPITAL_SIGN);
     points.dots();
     let mut place = usize::MAX;
     if has_mark(tone) {

@@ -95,8 +95,8 @@ impl Part {
 /// The high bit of each byte of the word that equals `byte`.
 #[inline(always)]
 pub(super) fn equal(word: u64, byte: u8) -> u64 {
-    let other = word ^ byte as u64 * 0x0101_0101_0101_0101;
-    !((other & !HIGH_BITS) + !HIGH_BITS | other) & HIGH_BITS
+    let other = word ^ (byte as u64 * 0x0101_0101_0101_0101);
+    !(((other & !HIGH_BITS) + !HIGH_BITS) | other) & HIGH_BITS
 }
 
 /// The refusal of an entry whose parts are too many or too long: a fault of its
@@ -632,8 +632,8 @@ unsafe fn quick_lines(table: &Table, letter: u8, kind: usize, first: u64, writte
         ptr::write_unaligned(line.add(2) as *mut u64, digits.to_le());
         let mut to = line.add(3 + width);
         *to.sub(1) = b' ';
-        for part in 0..table.count {
-            let choice = (position >> shifts[part]) as u8 & (table.parts[part].counts[kind] - 1);
+        for (part, shift) in shifts[..table.count].iter().enumerate() {
+            let choice = (position >> shift) as u8 & (table.parts[part].counts[kind] - 1);
             to = table.put(part, kind, choice, to);
         }
         *to = b'\n';
@@ -656,7 +656,7 @@ fn decimal(number: u64) -> (u64, usize) {
     }
     let (mut digits, mut width, mut left) = (b'0' as u64 + number % 10, 1, number / 10);
     while left > 0 {
-        digits = digits << 8 | b'0' as u64 + left % 10;
+        digits = digits << 8 | (b'0' as u64 + left % 10);
         left /= 10;
         width += 1;
     }

@@ -19,7 +19,7 @@ fn settings_fit(keys: &[u8; 7]) -> bool {
     let keys = u64::from_le_bytes(bytes);
     let high = ONES << 7;
     // A byte above 7E carries into its high bit; one below 21 borrows from the bit set there.
-    (keys | keys + ONES) & high == 0 && (keys | high) - 0x21 * ONES & high == high
+    (keys | (keys + ONES)) & high == 0 && ((keys | high) - 0x21 * ONES) & high == high
 }
 
 /// The tone that a key is tried for first.
