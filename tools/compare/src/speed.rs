@@ -34,7 +34,7 @@ pub fn run(words: &[&str]) -> io::Result<()> {
         _ => {
             return Err(io::Error::new(
                 io::ErrorKind::InvalidInput,
-                "speed [calls [PART] | entries | growth | docs FOLDER]",
+                "usage: compare speed [calls [PART] | entries | growth | docs FOLDER]",
             ))
         }
     }

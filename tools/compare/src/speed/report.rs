@@ -46,7 +46,8 @@ const TABLES: [&str; 6] = ["summary", "calls", "entries", "bytes of syllables", 
 
 /// Whether the page in a folder has the marks of every table, before anything is measured.
 pub fn check_page(folder: &Path) -> io::Result<()> {
-    let page = fs::read_to_string(folder.join(PAGE))?;
+    let page = fs::read_to_string(folder.join(PAGE))
+        .map_err(|error| io::Error::new(error.kind(), format!("{PAGE}: {error}")))?;
     TABLES.iter().try_for_each(|name| replaced(&page, name, "").map(drop))
 }
 
