@@ -5,6 +5,8 @@ use std::path::PathBuf;
 fn main() {
     println!("cargo:rerun-if-env-changed=ARCHIVES");
     println!("cargo:rerun-if-changed=build.rs");
+    println!("cargo:rerun-if-env-changed=CODE_PAD");
+    println!("cargo:rustc-env=CODE_PAD={}", env::var("CODE_PAD").unwrap_or("0".to_string()));
     println!("cargo:rustc-check-cfg=cfg(listing)");
     if env::var_os("CARGO_FEATURE_ARCHIVES").is_none() {
         return;

@@ -8,6 +8,7 @@
 # comparison's own tests. From the environment:
 #   CARGO_TARGET_DIR  where to build; else target/compare of the repository
 #   ARCHIVES          the folder of the two archives; else target/staticlib
+#   CODE_PAD          0, 16, 32 or 48: for speed, moves the code by so many bytes
 #   STAND_IN=1        run without the archives, against the stand-in
 set -eu
 [ $# -ge 2 ] || { echo "usage: run.sh SOURCES COMMAND [ARGUMENTS]" >&2; exit 2; }

@@ -11,9 +11,20 @@ mod rows;
 mod texts;
 
 use report::Report;
+use std::arch::global_asm;
 use std::fs;
 use std::io;
 use std::path::Path;
+
+// So many bytes of padding move all code that is linked behind them. Functions are
+// linked at multiples of 16 bytes, and some loops take longer at one of the four
+// places within a line of the cache than at another.
+global_asm!(
+    ".section .text.pad,\"axR\",@progbits",
+    ".p2align 6",
+    concat!(".skip 64 + ", env!("CODE_PAD"), ", 0x90"),
+    ".text"
+);
 
 /// Measures what the words say: nothing for everything; calls, of them those rows
 /// whose names contain a word; entries; growth; or everything for the pages in a folder.
