@@ -1,43 +1,10 @@
-//! Holds the C functions of Robinflint to the Rust that they port.
+//! The commands of the comparison.
 
-#[cfg(feature = "archives")]
-mod archive;
-mod call;
-mod compare;
-mod digest;
-mod entries;
-mod inputs;
-mod normalization;
-mod oracle;
-mod random;
-mod record;
-mod replay;
-mod rules;
-mod slab;
-mod speed;
-#[cfg_attr(feature = "archives", allow(dead_code))]
-mod standin;
-#[rustfmt::skip]
-mod tables;
-mod tuned;
-mod vectors;
-
-use call::Subject;
+use comparison::{compare, normalization, replay, speed, vectors, SUBJECT};
 use std::env;
 use std::io;
 use std::path::Path;
 use std::process::ExitCode;
-
-#[cfg(feature = "archives")]
-const SUBJECT: &dyn Subject = &archive::Archive;
-#[cfg(not(feature = "archives"))]
-const SUBJECT: &dyn Subject = &standin::StandIn;
-
-/// Whether the side that is compared has the listing.
-#[cfg(feature = "archives")]
-const LISTS: bool = archive::LISTS;
-#[cfg(not(feature = "archives"))]
-const LISTS: bool = true;
 
 const USAGE: &str = "usage: compare compare [SEED [CALL]]
        compare vectors DIR
