@@ -44,6 +44,7 @@ void __asan_on_error(void) {
     if (now.who) {
         fprintf(stderr, "FOUND a fault in %s, after %" PRIu64 " executions\n", now.who, tally_count());
         report_call(&now.asked, now.out, now.room);
+        tally_print();
         now.who = NULL;
     }
 }
@@ -114,13 +115,35 @@ static void hold(const char *who, caller call, size_t offset, const struct expec
     memcpy(out_page.seen + offset, clean + offset, expected->out_len);
 }
 
+/* Lends the buffer, and puts the text beside it where the input says so and both fit: a compiler may copy in another way where they lie close.
+ * Returns where the buffer lies in its page. */
+static size_t lend(const struct input *input, size_t *text_offset) {
+    size_t length = now.asked.text_len;
+    bool beside = (input->adjoins == BEFORE || input->adjoins == BEHIND) && length > 0 && now.room + length <= PAGE;
+    size_t both = page_offset(now.room + (beside ? length : 0), input->out_at_start);
+    size_t offset = beside && input->adjoins == BEFORE ? both + length : both;
+    now.out = now.room == 0 && input->null_when_empty ? NULL : out_page.seen + offset;
+    if (beside) {
+        *text_offset = input->adjoins == BEFORE ? both : both + now.room;
+        memcpy(out_page.seen + *text_offset, now.asked.text, length);
+        memcpy(wanted + *text_offset, now.asked.text, length);
+        now.asked.text = out_page.seen + *text_offset;
+    }
+    return offset;
+}
+
+/* Makes the pages alike again. */
+static void clear(size_t offset, size_t length) {
+    memcpy(out_page.seen + offset, clean + offset, length);
+    memcpy(wanted + offset, clean + offset, length);
+}
+
 int LLVMFuzzerTestOneInput(const uint8_t *data, size_t size) {
     struct input input = input_read(data, size);
     now.asked = input.asked;
     now.room = input_room(&input, expected_ask(&now.asked));
     struct expected expected = expected_within(now.asked.call == TONE_LETTER ? 0 : now.room);
-    size_t offset = page_offset(now.room, input.out_at_start);
-    now.out = now.room == 0 && input.null_when_empty ? NULL : out_page.seen + offset;
+    size_t text_offset = PAGE, offset = lend(&input, &text_offset);
     if (shows) {
         report_call(&now.asked, now.out, now.room);
         report_answer("expected", &expected.reply, expected.out, expected.out_len);
@@ -128,7 +151,10 @@ int LLVMFuzzerTestOneInput(const uint8_t *data, size_t size) {
     memcpy(wanted + offset, expected.out, expected.out_len);
     hold("the archive", archive_call, offset, &expected);
     hold("the hand-tuned Rust", tuned_call, offset, &expected);
-    memcpy(wanted + offset, clean + offset, expected.out_len);
+    clear(offset, expected.out_len);
+    if (text_offset < PAGE) {
+        clear(text_offset, now.asked.text_len);
+    }
     tally_add(&now.asked, &expected);
     return 0;
 }

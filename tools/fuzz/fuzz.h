@@ -57,7 +57,10 @@ struct input {
     uint8_t room_number;
     bool out_at_start;
     bool null_when_empty;
+    /* The text lies in the buffer's page: BEFORE or BEHIND the buffer, without a byte between. Any other number: it does not. */
+    unsigned adjoins;
 };
+enum { BEFORE = 1, BEHIND = 2 };
 void input_initialize(void);
 struct input input_read(const uint8_t *data, size_t size);
 size_t input_room(const struct input *input, size_t output);

@@ -5,7 +5,7 @@
  * | 0 | bits 0-2 the call, 3 the text lies at the start of its page, 4 the second text, 5 the buffer, 6 what is empty is a null pointer, 7 a wide number |
  * | 1 | bits 0-2 the kind of room, 3 the texts are spelled, 4-7 how often the text is repeated |
  * | 2, 3 | the numbers |
- * | 4, 5 | the length of the second text, little-endian; bit 15: it is the front of the text again |
+ * | 4, 5 | bits 0-12 the length of the second text, little-endian; 13, 14 the text adjoins the buffer before or behind it; 15 the second text is the front of the text again |
  * | 6 | a number for the room |
  * | 7 | only with a wide number: bits 0 and 1 say which numbers it replaces |
  * | 8-15 | only with a wide number: the number, little-endian |
@@ -128,7 +128,7 @@ static size_t read_second(struct asked *asked, const struct bytes *rest, unsigne
     if (asked->call != ALIGN && asked->call != COMPOSE && asked->call != TELEX) {
         return 0;
     }
-    size_t length = field & 0x7FFF;
+    size_t length = field & 0x1FFF;
     length = length < rest->left ? length : rest->left;
     bool again = field >> 15;
     const uint8_t *from = again ? rest->data : rest->data + rest->left - length;
@@ -155,6 +155,7 @@ struct input input_read(const uint8_t *data, size_t size) {
     input.room_number = next(&rest);
     input.out_at_start = flags >> 5 & 1;
     input.null_when_empty = flags >> 6 & 1;
+    input.adjoins = field >> 13 & 3;
     if (flags >> 7) {
         uint8_t which = next(&rest);
         uint64_t wide = next_wide(&rest);
@@ -185,7 +186,7 @@ static size_t input_new(uint8_t *data, unsigned seed) {
     data[0] &= 0x7F;
     data[1] = (data[1] & 0x07) | 0x08;
     data[4] %= 4;
-    data[5] &= 0x80;
+    data[5] &= 0xE0;
     size_t count = 1 + draw(&state) % 5;
     for (size_t at = HEADER; at < HEADER + count; at++) {
         data[at] = draw(&state) & 1 ? 0x80 | (draw(&state) & 0x7F) : (uint8_t)letters[draw(&state) % (sizeof letters - 1)];
