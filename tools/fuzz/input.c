@@ -60,8 +60,8 @@ static uint64_t next_wide(struct bytes *from) {
 /* A number below `bound` for most bytes, and one of the eight from `bound` on for the last eight. */
 static uint64_t small(uint8_t byte, unsigned bound) { return byte < 248 ? byte % bound : bound + (byte - 248); }
 
-/* Bytes above 7F become printable ones, so that most are. */
-static uint8_t printable(uint8_t byte) { return byte < 0x80 ? byte : 0x21 + byte % 94; }
+/* Printable bytes and those next to them stay; the others become printable, so that most are. */
+static uint8_t printable(uint8_t byte) { return byte >= 0x1F && byte <= 0x7F ? byte : 0x21 + byte % 94; }
 
 static void read_numbers(struct asked *asked, uint8_t first, uint8_t second) {
     static const unsigned char bounds[CALLS][2] = {[CANDIDATE] = {2, 1}, [COMPOSE] = {10, 2}, [KEYING] = {3, 0}, [TELEX] = {0, 2}};
@@ -115,11 +115,11 @@ static const uint8_t *put(const struct page *page, const uint8_t *bytes, size_t 
     return length == 0 && null_when_empty ? NULL : page->seen + offset;
 }
 
-/* The seven tone keys; those that the input does not give are the usual ones. */
-static void write_tone_keys(const uint8_t *from, size_t length, uint8_t to[7]) {
+/* The seven tone keys, made printable beside a spelled text; those that the input does not give are the usual ones. */
+static void write_tone_keys(const uint8_t *from, size_t length, bool spelled, uint8_t to[7]) {
     memcpy(to, "sflxjjw", 7);
     for (size_t i = 0; i < length && i < 7; i++) {
-        to[i] = printable(from[i]);
+        to[i] = spelled ? printable(from[i]) : from[i];
     }
 }
 
@@ -133,7 +133,7 @@ static size_t read_second(struct asked *asked, const struct bytes *rest, unsigne
     bool again = field >> 15;
     const uint8_t *from = again ? rest->data : rest->data + rest->left - length;
     if (asked->call == TELEX) {
-        write_tone_keys(from, length, to);
+        write_tone_keys(from, length, spelled, to);
         asked->second_len = 7;
     } else {
         asked->second_len = write_text(from, length, spelled, to);

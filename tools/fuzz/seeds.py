@@ -56,7 +56,7 @@ def numbers(call, first, second, asked):
         CANDIDATE: ((asked, small(asked, 2)), (0, 0)),
         COMPOSE: ((first, small(first, 10)), (second, small(second, 2))),
         KEYING: ((first, small(first, 3)), (asked, asked if asked < 256 else None)),
-        TELEX: ((second, second if second < 128 else None), (first, small(first, 2))),
+        TELEX: ((second, second if 0x1F <= second <= 0x7F else None), (first, small(first, 2))),
     }.get(call, ((0, 0), (0, 0)))
     which = sum(1 << place for place, (_, byte) in enumerate(given) if byte is None)
     wide = max((number for number, byte in given if byte is None), default=0)
