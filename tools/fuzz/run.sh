@@ -110,10 +110,11 @@ fuzz() {
     [ -z "$(ls "$CARGO_TARGET_DIR/findings" 2>/dev/null)" ] || { echo "there are findings of an earlier run in $CARGO_TARGET_DIR/findings" >&2; exit 2; }
     echo "fuzzing for $1 seconds; the log is $CARGO_TARGET_DIR/log.txt" >&2
     status=0
+    begin=$(date +%s)
     search "$built/fuzz" "$1" "$CARGO_TARGET_DIR/findings" "$CARGO_TARGET_DIR/corpus" \
         > "$CARGO_TARGET_DIR/counts.txt" 2> "$CARGO_TARGET_DIR/log.txt" || status=1
     grep -a -A 12 '^FOUND' "$CARGO_TARGET_DIR/log.txt" >&2 || true
-    record "$1"
+    record $(($(date +%s) - begin))
     return $status
 }
 
