@@ -16,9 +16,8 @@ mod compared {
 mod memory;
 
 use compared::{tables, tuned};
-use comparison::call::{self, Call, Question, Reply, Subject};
+use comparison::call::{self, Call, Question, Reply};
 use comparison::oracle::{self, Answer};
-use comparison::standin::StandIn;
 use std::cell::RefCell;
 use std::slice;
 
@@ -121,7 +120,7 @@ pub extern "C" fn expected_within(room: usize) -> Expected {
     })
 }
 
-/// The hand-tuned Rust's answer. It has no tone letter: there the comparison's stand-in answers.
+/// The hand-tuned Rust's answer.
 ///
 /// # Safety
 /// The pointers reach as many bytes as the lengths say, and nobody else has the buffer.
@@ -131,12 +130,13 @@ pub unsafe extern "C" fn tuned_call(asked: &Asked, out: *mut u8, room: usize) ->
     let Question { call, text, second } = question;
     match call {
         Call::Strip => tuned::strip(text, out),
+        Call::ToneLetter => tuned::tone_letter(text),
         Call::FromRaw => tuned::from_raw(text, out),
         Call::Compose { tone, khin } => tuned::compose(text, second, tone, khin, out),
         Call::Candidate { position } => tuned::candidate(text, position, out),
         Call::Keying { kind, position } => tuned::keying(text, kind, position, out),
         Call::Telex { key, mode } => tuned::telex(text, key, mode, second.try_into().unwrap(), out),
         Call::Align => tuned::align(text, second, out),
-        _ => StandIn.call(question, out),
+        _ => unreachable!("the fuzzer asks the eight calls"),
     }
 }
