@@ -222,7 +222,7 @@ pub(crate) fn lay_parts(
     lengths: &mut [[u16; 4]; 16],
     forms: &mut [u8],
 ) -> [u8; 16]
-    requires { ⌜ Entry (now entry) parts × (length (now offsets) ≡ 16) × (length (now lengths) ≡ 16) × (5152 ≤ length (now forms)) × (length (now forms) ≤ 65535) ⌝ }
+    requires { ⌜ Entry (now entry) parts × (length (now offsets) ≡ 16) × (length (now lengths) ≡ 16) × (5 * length (now entry) + 32 ≤ length (now forms)) × (length (now forms) ≤ 65535) ⌝ }
     ensures { λ r. ⌜ (laidOut (now (forms .exit)) (now (offsets .exit)) (now (lengths .exit)) r parts ≡ choicesIn unicode16 kind (now (entry .entry))) × Laid (now (offsets .exit)) (now (lengths .exit)) r parts (length (now (forms .exit))) ⌝ }
 {
     let single = parts == 1;
@@ -387,16 +387,36 @@ fn place(
     })
 }
 
-// The keying at a position of a good entry. A form has at most five bytes for each two of its part, and one more, and a part has two forms.
-fn keying_of(entry: &[u8], parts: usize, kind: Kind, position: u64, out: &mut [u8]) -> Keying
-    requires { ⌜ Entry (now entry) parts ⌝ }
+// The keying at a position of a good entry, whose forms are laid out in `forms`.
+fn keying_in(
+    entry: &[u8],
+    parts: usize,
+    kind: Kind,
+    position: u64,
+    forms: &mut [u8],
+    out: &mut [u8],
+) -> Keying
+    requires { ⌜ Entry (now entry) parts × (5 * length (now entry) + 32 ≤ length (now forms)) × (length (now forms) ≤ 65535) ⌝ }
     ensures { λ r. ⌜ keyingReply r (now (out .exit)) ≡ keyingCall unicode16 (now (entry .entry)) kind position (now (out .entry)) ⌝ }
 {
     let mut offsets = [[0u16; 4]; 16];
     let mut lengths = [[0u16; 4]; 16];
+    let radices = lay_parts(entry, parts, kind, &mut offsets, &mut lengths, forms);
+    place(forms, offsets, lengths, radices, parts, position, out)
+}
+
+// A form has at most five bytes for each two of its part, and one more, and a part has two forms. Entries of at most 32 bytes, as most have, go in a
+// small buffer: clearing it is quicker.
+fn keying_of(entry: &[u8], parts: usize, kind: Kind, position: u64, out: &mut [u8]) -> Keying
+    requires { ⌜ Entry (now entry) parts ⌝ }
+    ensures { λ r. ⌜ keyingReply r (now (out .exit)) ≡ keyingCall unicode16 (now (entry .entry)) kind position (now (out .entry)) ⌝ }
+{
+    if entry.len() <= 32 {
+        let mut forms = [0u8; 192];
+        return keying_in(entry, parts, kind, position, &mut forms, out);
+    }
     let mut forms = [0u8; 5152];
-    let radices = lay_parts(entry, parts, kind, &mut offsets, &mut lengths, &mut forms);
-    place(&forms, offsets, lengths, radices, parts, position, out)
+    keying_in(entry, parts, kind, position, &mut forms, out)
 }
 
 // The keying of an entry at a position of the list of a kind, in `out`.

@@ -122,8 +122,8 @@ module _ {entry : List ℕ} {kind : Kind} {parts : ℕ} (e : Entry entry parts) 
     filling-end = passing-inside (h .passing) filling-here end ends
 
     -- there is room for it
-    pub filling-room : used + (5 * length part + 2) ≤ 5152
-    filling-room = omega (arith, h .few, part-ends, filling-end, entry-passed e .short, entry-parts e .1)
+    pub filling-room : used + (5 * length part + 2) ≤ 5 * length entry + 32
+    filling-room = omega (arith, h .few, part-ends, filling-end, entry-parts e .1)
 
     module _ (forms′ : List ℕ) (row : Row) (r : RowOf unicode16 (eqb parts 1) kind part used forms forms′ row) where
       abbrev offsets′ : List (List ℕ)

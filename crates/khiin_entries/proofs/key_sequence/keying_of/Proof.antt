@@ -1,43 +1,43 @@
 -- `key_sequence::keying_of` meets its contract.
-use mathlib.Core.Path.{_≡_, _∙_}
-use Rattle.khiin_entries.proofs.key_sequence.Filling.{entry-parts}
-use Rattle.khiin_entries.proofs.key_sequence.Calling.{laid-call}
+use Rattle.khiin_entries.proofs.key_sequence.Filling.{entry-passed}
 use borrow.Author.Needs.{needs}
+use native.Mathlib.Omega.{arith}
 use Rattle.khiin_entries.proofs.key_sequence.keying_of.Statement.{statement}
 use Rattle.khiin_entries.proofs.key_sequence.keying_of.Tie as tie
 
-slice-aggregate-lay-parts : tie.Need-slice-aggregate-lay-parts
-slice-aggregate-lay-parts c = search needs
+slice-aggregate-keying-in : tie.Need-slice-aggregate-keying-in
+slice-aggregate-keying-in c = search needs
 
-lay-parts-requires : tie.Need-lay-parts-requires
-lay-parts-requires c κs = search needs
-
-slice-aggregate-place : tie.Need-slice-aggregate-place
-slice-aggregate-place c = search needs
-
-place-requires : tie.Need-place-requires
-place-requires c κs =
-    let l = c .before .before .before in
-    let s = l .before .before .before .before .before .before in
-    (entry-parts (s .pre) .1, l .lay-parts .ensures .1)
+keying-in-requires : tie.Need-keying-in-requires
+keying-in-requires c κs = search needs
 
 same-length : tie.Need-same-length
 same-length c = search needs
 
 returns : tie.Need-returns
-returns c =
-    let p = c .before .before in
-    let l = p .before .before .before .before in
-    let s = l .before .before .before .before .before .before in
-    p .place .ensures ∙ laid-call (s .pre) (s .args .kind) (s .args .position) (s .args .out .now) _ _ _ _ _ (l .lay-parts .ensures .1) (l .lay-parts .ensures .0)
+returns c = search needs
+
+slice-aggregate-keying-in-2 : tie.Need-slice-aggregate-keying-in-2
+slice-aggregate-keying-in-2 c = search needs
+
+keying-in-requires-2 : tie.Need-keying-in-requires-2
+keying-in-requires-2 c κs = let s = c .before .before .before .before .before in (s .pre, omega (arith, entry-passed (s .pre) .short), omega arith)
+
+same-length-2 : tie.Need-same-length-2
+same-length-2 c = search needs
+
+returns-2 : tie.Need-returns-2
+returns-2 c = search needs
 
 pub keying-of-spec : {M : Type 1} → statement M
 keying-of-spec =
     tie.close
     (tie.spec
-    slice-aggregate-lay-parts
-    lay-parts-requires
-    slice-aggregate-place
-    place-requires
+    slice-aggregate-keying-in
+    keying-in-requires
     same-length
-    returns)
+    returns
+    slice-aggregate-keying-in-2
+    keying-in-requires-2
+    same-length-2
+    returns-2)

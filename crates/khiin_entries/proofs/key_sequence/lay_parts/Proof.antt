@@ -47,7 +47,7 @@ module _ (t : tie.After-part-end Inv-loop μ-loop) where
   inside : (l .loop .at ≤ end) × (end ≤ length (s .args .entry .now)) × (length (s .args .entry .now) ≤ 1024) × (l .loop .i < 16)
   inside = (omega (arith, t .part-end .ensures), filling-end (s .pre .0) h more end (t .part-end .ensures), entry-passed (s .pre .0) .short, omega (arith, more, entry-parts (s .pre .0) .1))
 
-  room : l .loop .used + (5 * length part + 2) ≤ 5152
+  room : l .loop .used + (5 * length part + 2) ≤ 5 * length (s .args .entry .now) + 32
   room = filling-room (s .pre .0) h more end (t .part-end .ensures)
 
 loop-holds : tie.Need-loop-holds Inv-loop μ-loop

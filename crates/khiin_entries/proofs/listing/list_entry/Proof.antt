@@ -1,7 +1,7 @@
 -- `listing::list_entry` meets its contract.
 use mathlib.Core.Path.{refl}
 use Rattle.ji.specs.declared.lomaji.keys.Kind.the-variants.{Detoned}
-use Rattle.khiin_entries.proofs.key_sequence.Filling.{entry-parts}
+use Rattle.khiin_entries.proofs.key_sequence.Filling.{entry-passed, entry-parts}
 use Rattle.khiin_entries.proofs.listing.Sections.{count-is, reached-fits, reached-as, section-reached, listing-is}
 use borrow.Author.Needs.{needs}
 use native.Mathlib.Omega.{arith}
@@ -12,7 +12,7 @@ slice-aggregate-lay-parts : tie.Need-slice-aggregate-lay-parts
 slice-aggregate-lay-parts c = search needs
 
 lay-parts-requires : tie.Need-lay-parts-requires
-lay-parts-requires c κs = search needs
+lay-parts-requires c κs = let s = c .before .before .before .before .before in (s .pre, refl, refl, omega (arith, entry-passed (s .pre) .short), omega arith)
 
 count-of-requires : tie.Need-count-of-requires
 count-of-requires c κs =

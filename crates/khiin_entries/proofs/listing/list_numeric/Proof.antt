@@ -13,7 +13,7 @@ slice-aggregate-lay-parts : tie.Need-slice-aggregate-lay-parts
 slice-aggregate-lay-parts c = search needs
 
 lay-parts-requires : tie.Need-lay-parts-requires
-lay-parts-requires c κs = search needs
+lay-parts-requires c κs = let s = c .before .before .before .before .before in (s .pre, refl, refl, omega (arith, entry-passed (s .pre) .short), omega arith)
 
 count-of-requires : tie.Need-count-of-requires
 count-of-requires c κs =

@@ -3,7 +3,7 @@ use mathlib.Core.Path.{refl, ap}
 use Prim.Native.Nat.{ℕ}
 use Rattle.ji.specs.declared.lomaji.keys.Kind.the-variants.{Telex}
 use Rattle.khiin_entries.specs.Lines.{throughNumeric, throughTelex}
-use Rattle.khiin_entries.proofs.key_sequence.Filling.{entry-parts}
+use Rattle.khiin_entries.proofs.key_sequence.Filling.{entry-passed, entry-parts}
 use Rattle.khiin_entries.proofs.listing.Sections.{count-is, reached-fits, reached-as, section-reached}
 use borrow.Author.Needs.{needs}
 use native.Mathlib.Omega.{arith}
@@ -14,7 +14,7 @@ slice-aggregate-lay-parts : tie.Need-slice-aggregate-lay-parts
 slice-aggregate-lay-parts c = search needs
 
 lay-parts-requires : tie.Need-lay-parts-requires
-lay-parts-requires c κs = search needs
+lay-parts-requires c κs = let s = c .before .before .before .before .before in (s .pre, refl, refl, omega (arith, entry-passed (s .pre) .short), omega arith)
 
 count-of-requires : tie.Need-count-of-requires
 count-of-requires c κs =
