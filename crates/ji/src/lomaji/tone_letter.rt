@@ -7,7 +7,7 @@ use crate::unicode::CharLen;
 use crate::unicode::Decoded;
 ghost use mathlib.Core.Path.{_≡_};
 ghost use mathlib.Core.List.{[], _∷_};
-ghost use Prim.Native.Nat.{_<_, _≤_};
+ghost use Prim.Native.Nat.{_*_, _/_, _<_, _≤_};
 ghost use lib.Dec.{eqb};
 ghost use lib.ListN.{length, drop, getD};
 ghost use Rattle.ucd.specs.Table.{listed};
@@ -204,23 +204,6 @@ pub enum ToneLetter {
     Refused(Refusal),
 }
 
-// `get_tone_position`: the tone letter of `text` as it stands.
-pub fn tone_letter(text: &[u8]) -> ToneLetter
-    ensures { λ r. ⌜ toneLetterReply r ≡ toneLetterCall unicode16 (now (text .entry)) ⌝ }
-{
-    if 256 < text.len() {
-        return ToneLetter::Refused(Refusal::TooLong);
-    }
-    let mut points = [0u16; 384];
-    match unicode::decode(text, false, &mut points) {
-        Decoded::Refused(why) => ToneLetter::Refused(why),
-        Decoded::Points(len) => {
-            let n = len.0;
-            letter_in(&points[0..n])
-        }
-    }
-}
-
 // The tone letter of a text that was read: its place among the code points, turned into bytes.
 fn letter_in(s: &[u16]) -> ToneLetter
     requires { ⌜ length (now s) ≤ 65536 ⌝ }
@@ -230,6 +213,35 @@ fn letter_in(s: &[u16]) -> ToneLetter
         Place::At(chars) => ToneLetter::At(unicode::to_byte_len(s, chars)),
         Place::Nowhere => ToneLetter::Nothing,
     }
+}
+
+// The tone letter of a text, whose code points are read into `points`.
+fn letter_by(text: &[u8], points: &mut [u16]) -> ToneLetter
+    requires { ⌜ (length (now text) ≤ 256) × (length (now text) ≤ length (now points) / 3 * 2) × (length (now points) ≤ 65536) ⌝ }
+    ensures { λ r. ⌜ toneLetterReply r ≡ toneLetterCall unicode16 (now (text .entry)) ⌝ }
+{
+    match unicode::points(text, points) {
+        Decoded::Refused(why) => ToneLetter::Refused(why),
+        Decoded::Points(len) => {
+            let n = len.0;
+            letter_in(&points[0..n])
+        }
+    }
+}
+
+// `get_tone_position`: the tone letter of `text` as it stands. Short texts go in a small buffer, since clearing it is quicker.
+pub fn tone_letter(text: &[u8]) -> ToneLetter
+    ensures { λ r. ⌜ toneLetterReply r ≡ toneLetterCall unicode16 (now (text .entry)) ⌝ }
+{
+    if text.len() <= 16 {
+        let mut points = [0u16; 24];
+        return letter_by(text, &mut points);
+    }
+    if text.len() <= 256 {
+        let mut points = [0u16; 384];
+        return letter_by(text, &mut points);
+    }
+    ToneLetter::Refused(Refusal::TooLong)
 }
 
 // What `has_tone_letter` answers.
