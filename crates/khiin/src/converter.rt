@@ -506,7 +506,7 @@ fn step_in(
     let mut tone = Tone::T1;
     let mut edit = Edit::Compose;
     if copy_ascii(text, bytes) {
-        tone = strip::unmarked_tone(text);
+        tone = strip::unmarked_tone(&bytes[0..n]);
     } else {
         match strip::strip_tone_diacritic(text, bytes) {
             Strip::Refused(why) => {

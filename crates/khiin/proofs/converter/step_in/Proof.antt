@@ -3,6 +3,7 @@ use mathlib.Core.Bool.{true}
 use mathlib.Core.List.{List, [], _∷_, _++_}
 use mathlib.Core.Logic.{_⊎_, inl, inr}
 use Prim.Native.Nat.{ℕ, _+_, _-_, _*_, _/_, _≤_, _<_}
+use native.Mathlib.Nat.{sub-zero}
 use lib.ListN.{length, take}
 use Rattle.ji.specs.Unicode.{unicode16}
 use Rattle.ji.specs.Text.{allAscii}
@@ -59,16 +60,17 @@ module _ (c : tie.After-copy-ascii) where
           written = c .copy-ascii .ensures yes .1 ∙ sym (ascii-bytes (first .args .text .now) ascii);
         }
 
-    ascii-known : (o : Tone) → o ≡ unmarkedTone (first .args .text .now) → Known first copied (length (first .args .text .now)) o Compose
+    ascii-known : (o : Tone) → o ≡ unmarkedTone (take (length (first .args .text .now) - 0) copied) → Known first copied (length (first .args .text .now)) o Compose
     unfolding ascii-in
     ascii-known o is =
         let a = first .args in
-        let out : List ℕ → Reply = λ l. placed 0 (encode l) (a .out .now) in (
+        let out : List ℕ → Reply = λ l. placed 0 (encode l) (a .out .now) in
+        let front-is = ap (λ (n : ℕ). take n copied) (sub-zero (length (a .text .now))) ∙ c .copy-ascii .ensures yes .1 in (
           omega arith,
           c .copy-ascii .kept .1 .0,
           (
             ascii-in,
-            ap (λ (x : Tone). out (composedOf unicode16 (a .k) (a .key) x (a .text .now))) is
+            ap (λ (x : Tone). out (composedOf unicode16 (a .k) (a .key) x (a .text .now))) (is ∙ ap unmarkedTone front-is)
                 ∙ ap out (sym (ascii-step (a .k) (a .key) (a .text .now) ascii))
                 ∙ text-good unicode16 (stepOf unicode16 (a .k) (a .key)) (a .text .now) (a .out .now) (a .text .now) (check-within unicode16 (a .text .now) (first .pre .1) ∙ ascii-good (a .text .now) ascii),
           ),
@@ -156,15 +158,27 @@ one-of (inr y) f g = g y
 known : (j : tie.Joined1) → Known (first (j .before .before .before)) (j .if1 .bytes) (j .if1 .n) (j .if1 .tone) (j .if1 .edit)
 known j =
     one-of (j .if1 .came)
-    (λ w. rw (w .2, w .3, w .4, w .5) (ascii-known (j .before .before .before) (w .0 .taken) (w .1 .result) (w .1 .ensures)))
+    (λ w. rw (w .4, w .5, w .6, w .7) (ascii-known (j .before .before .before) (w .0 .taken) (w .3 .result) (w .3 .ensures)))
     (λ w.
     let stripped-at : tie.After-strip-tone-diacritic = record { before = record { before = record { before = j .before; if1 = w .0 }; strip-tone-diacritic-arg = w .1 }; strip-tone-diacritic = w .2 } in
-    let result-at : tie.After-result = record { before = record { before = record { before = record { before = stripped-at; bytes2 = w .3 }; slice-known5 = w .4 }; match = w .5 }; result = w .6 } in
+    let result-at : tie.After-result = record { before = record { before = record { before = record { before = stripped-at; bytes3 = w .3 }; slice-known5 = w .4 }; match = w .5 }; result = w .6 } in
     let c : tie.After-edit-of = record { before = record { before = record { before = result-at; known-told2 = w .7 }; len = w .8 }; edit-of = w .9 } in
     rw (w .10, w .11, w .12, w .13) (stripped-known c))
 
 copy-ascii-requires : tie.Need-copy-ascii-requires
 copy-ascii-requires c κs = let p = c .before .before .before .before .before .pre .2 in omega (arith, p)
+
+sub-unmarked-tone : tie.Need-sub-unmarked-tone
+sub-unmarked-tone c = search needs
+
+part-unmarked-tone-start : tie.Need-part-unmarked-tone-start
+part-unmarked-tone-start c = search needs
+
+part-unmarked-tone-end : tie.Need-part-unmarked-tone-end
+part-unmarked-tone-end c =
+    let d = c .before .before .before .before in
+    let p = first d .pre .2 in
+    omega (arith, p, d .copy-ascii .kept .1 .0)
 
 unmarked-tone-requires : tie.Need-unmarked-tone-requires
 unmarked-tone-requires c κs = search needs
@@ -225,6 +239,9 @@ step-in-spec =
     tie.close
     (tie.spec
     copy-ascii-requires
+    sub-unmarked-tone
+    part-unmarked-tone-start
+    part-unmarked-tone-end
     unmarked-tone-requires
     strip-tone-diacritic-requires
     enum-known-why
