@@ -1,11 +1,12 @@
 -- Laws of a buffer that is written from its front (`Written`): how each kind of store takes it one step further, and what it says of the buffer.
 use mathlib.Core.Path.{_≡_, refl, sym, ap, ap₂, _∙_}
 use mathlib.Core.List.{List, [], _∷_, _++_, append-nil}
-use Prim.Native.Nat.{ℕ, suc, _+_, _≤_, _<_}
+use Prim.Native.Nat.{ℕ, suc, _+_, _-_, _≤_, _<_}
+use native.Mathlib.Nat.{sub-zero}
 use native.Mathlib.Numerals.{add-one, add-two}
 use native.Mathlib.Omega.{arith}
 use lib.ListN.{length, take, drop, getD, set, length-append, length-drop, drop-of-length-le}
-use lib.Seq.{drop-cons, set-at, append-snoc, take-at, drop-at, drop-drop, getD-append-add, getD-drop, paste, take-length, sets-eq}
+use lib.Seq.{drop-cons, set-at, append-snoc, take-at, drop-at, drop-drop, getD-append-add, getD-drop, paste, take-length, take-suc-set, sets-eq}
 use Rattle.ji.specs.Written.{Written}
 
 -- before the first store
@@ -97,3 +98,7 @@ module _ (d : List ℕ) (j : ℕ) where
 
   pub stores-3 : (a b c : ℕ) → j + 3 ≤ length d → set (set (set d j a) (j + 1) b) (j + 2) c ≡ paste d j (a ∷ b ∷ c ∷ []) 3
   stores-3 a b c room = ap₂ (λ (k n : ℕ). set (set (set d j a) k b) n c) (add-one j) (add-two j) ∙ sets-eq (a ∷ b ∷ c ∷ []) d j room
+
+-- an element that was stored behind the first n
+pub stored-key : (p : List ℕ) (n key : ℕ) → n < length p → take (n + 1 - 0) (set p n key) ≡ take n p ++ (key ∷ [])
+stored-key p n key h = ap (λ (m : ℕ). take m (set p n key)) (sub-zero (n + 1) ∙ add-one n) ∙ take-suc-set p n key h

@@ -26,8 +26,7 @@ use Rattle.ji.specs.declared.tone.Tone.the-variants.{T1, T2, T3, T4, T5, T6, T7
 use Rattle.ji.proofs.Bools.{either, and-yes, or-no}
 use Rattle.ji.proofs.Closure.{nfc-inside-16}
 use Rattle.ji.proofs.Composition.{all-append}
-use Rattle.ji.proofs.unicode.Bytes.{same-equal}
-use Rattle.ji.proofs.lomaji.keys.Laws.{encode-most}
+use Rattle.ji.proofs.unicode.Bytes.{same-equal, encode-most}
 use Rattle.ji.proofs.lomaji.strip.Answers.{same-tone}
 use Rattle.ji.proofs.lomaji.strip.Laws.{last-none, last-more}
 use Rattle.khiin.specs.Syllable.{markOf, encoded}

@@ -7,9 +7,9 @@ use Prim.Native.Nat.{ℕ}
 use lib.Dec.{eqb}
 use Rattle.ucd.specs.Table.{same, listed}
 pub use Rattle.ucd.proofs.Tests.{same-equal, same-itself}
-pub use Rattle.ji.proofs.utf8.Encoding.{bytes-one, bytes-two, bytes-three, bytes-four, encode-nil, encode-cons, encode-append}
+pub use Rattle.ji.proofs.utf8.Encoding.{bytes-one, bytes-two, bytes-three, bytes-four, encode-nil, encode-cons, encode-append, encode-most}
 pub use Rattle.ji.proofs.utf8.RoundTrip.{decode-encode, encode-decode}
-pub use Rattle.ji.proofs.utf8.OneToOne.{bytes-some, encode-one-to-one, same-bytes, begins-bytes, drop-bytes}
+pub use Rattle.ji.proofs.utf8.OneToOne.{bytes-some, fewer, encode-one-to-one, same-bytes, begins-bytes, drop-bytes}
 pub use Rattle.ji.proofs.utf8.Last.{but-last, last-skip, start-bytes, front-bytes, point-bytes}
 
 pub listed-nil : (c : ℕ) → listed [] c ≡ false

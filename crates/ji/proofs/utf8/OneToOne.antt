@@ -97,6 +97,11 @@ bytes-some x = by-size′ (decLe x 0x7F) (decLe x 0x7FF) (decLe x 0xFFFF)
     by-size′ (no h) (no k) (yes l) = rw (bytes-three x (omega arith) l) (omega arith)
     by-size′ (no h) (no k) (no l) = rw (bytes-four x (omega arith)) (omega arith)
 
+-- a text has at least as many bytes as code points
+pub fewer : (s : List ℕ) → length s ≤ length (encode s)
+fewer [] = omega arith
+fewer (x ∷ s) = omega (arith, ap length (encode-cons x s), length-append (bytesOf x) (encode s), bytes-some x, fewer s)
+
 cons-not-nil : (x : ℕ) (s : List ℕ) → encode (x ∷ s) ≡ encode [] → ⊥
 cons-not-nil x s e =
     omega (arith, bytes-some x, length-append (bytesOf x) (encode s), ap length (sym (encode-cons x s) ∙ e ∙ encode-nil))

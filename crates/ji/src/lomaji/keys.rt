@@ -1,26 +1,28 @@
 // Keys of one syllable.
-ghost use mathlib.Core.Path.{_≡_};
-ghost use mathlib.Core.List.{[], _∷_};
-ghost use Prim.Native.Nat.{_+_, _*_, _≤_, _<_};
-ghost use lib.ListN.{length, take, drop};
-ghost use lib.Seq.{paste};
-ghost use Rattle.ucd.specs.Unicode16.{unicode16};
-ghost use Rattle.ji.specs.Utf8.{encode};
-ghost use Rattle.ji.specs.Tone.{toneNumber};
-ghost use Rattle.ji.specs.Written.{Written};
-ghost use Rattle.ji.specs.Reply.{textCall, textReply};
-ghost use Rattle.ji.specs.Lomaji.Strip.{unmarkedTone, toneOr, stripped};
-ghost use Rattle.ji.specs.Lomaji.Keys.{plainRules, rulesOf, respell, toneKeys, keyed, keys, keyText};
 use crate::lomaji::strip;
-use crate::nfd;
+use crate::lomaji::strip::Strip;
 use crate::reply;
+use crate::reply::Refusal;
 use crate::reply::TextAnswer;
 use crate::text::put;
 use crate::text::replace_pair;
 use crate::tone;
 use crate::tone::Tone;
+use crate::unicode;
 use crate::unicode::Decoded;
-use crate::utf8;
+ghost use mathlib.Core.Path.{_≡_};
+ghost use mathlib.Core.Bool.{true};
+ghost use mathlib.Core.List.{List, [], _∷_, _++_};
+ghost use Prim.Native.Nat.{ℕ, _+_, _*_, _/_, _≤_, _<_};
+ghost use lib.ListN.{length, take, drop};
+ghost use lib.Seq.{paste};
+ghost use Rattle.ucd.specs.Unicode16.{unicode16};
+ghost use Rattle.ji.specs.Utf8.{encode};
+ghost use Rattle.ji.specs.Unicode.{members};
+ghost use Rattle.ji.specs.Tone.{toneNumber};
+ghost use Rattle.ji.specs.Written.{Written};
+ghost use Rattle.ji.specs.Reply.{placed, textCall, textReply};
+ghost use Rattle.ji.specs.Lomaji.Keys.{plainRules, rulesOf, respell, toneKeys, keys, keyText};
 
 // The two spellings of o with U+0358: ou, and oo.
 pub enum Form {
@@ -37,7 +39,7 @@ pub enum Kind {
 // The key that a tone adds.
 pub(crate) enum ToneKey {
     Nothing,
-    Key(u16),
+    Key(u8),
 }
 
 // The rules go in three parts, in their order. Letters by number: 4E N, 4F O, 65 e, 6E n, 6F o, 75 u.
@@ -105,7 +107,7 @@ pub(crate) fn respell(form: Form, s: &mut [u16], out: &mut [u16]) -> usize
 fn key_of(ascii: u8) -> ToneKey
     ensures { λ r. ⌜ keyText r ≡ ascii ∷ [] ⌝ }
 {
-    ToneKey::Key(ascii as u16)
+    ToneKey::Key(ascii)
 }
 
 // The key by which keys of a kind write a tone.
@@ -128,52 +130,110 @@ fn put_key(key: ToneKey, out: &mut [u16], at: usize) -> usize
     match key {
         ToneKey::Nothing => at,
         ToneKey::Key(k) => {
-            out[at] = k;
+            out[at] = k as u16;
             at + 1
         }
     }
 }
 
-// The tone of the stripped text `s`: of the last mark, or by its ending, for which it is turned into bytes. A code point of it has at most three.
-fn spoken_tone(last: Tone, s: &[u16]) -> Tone
-    requires { ⌜ length (now s) ≤ 384 ⌝ }
-    ensures { λ r. ⌜ r ≡ toneOr last (unmarkedTone (encode (now (s .entry)))) ⌝ }
+// Writes the keys of a stripped text, whose bytes `stripped` are, to the front of `letters`, with the key of its tone, and returns their number. The
+// text's code points go to `points`.
+fn respell_bytes(
+    form: Form,
+    key: ToneKey,
+    stripped: &[u8],
+    points: &mut [u16],
+    letters: &mut [u16],
+) -> usize
+    requires { ⌜ (length (now stripped) ≤ length (now points) / 3 * 2) × (2 * length (now stripped) < length (now letters)) ⌝ }
+    ensures { λ r. ⌜ ((rest : List ℕ) → members unicode16 rest ≡ true → now (stripped .entry) ≡ encode rest → Written (now (letters .entry)) (now (letters .exit)) r (respell (rulesOf form) rest ++ keyText key)) ⌝ }
 {
-    if tone::is_tone(last) {
-        return last;
+    match unicode::points(stripped, points) {
+        Decoded::Refused(_) => 0,
+        Decoded::Points(len) => {
+            let n = len.0;
+            let m = respell(form, &mut points[0..n], letters);
+            put_key(key, letters, m)
+        }
     }
-    let mut bytes = [0u8; 1152];
-    let len = utf8::encode(s, &mut bytes);
-    let n = len.0;
-    strip::tone_of(last, &bytes[0..n])
 }
 
-// Writes the keys of the text `s`, which is in NFD, to the front of `out`, and returns their number. `s` is used up.
-fn write_keys(form: Form, kind: Kind, s: &mut [u16], out: &mut [u16]) -> usize
-    requires { ⌜ (length (now s) ≤ 384) × (2 * length (now s) < length (now out)) ⌝ }
-    ensures { λ r. ⌜ Written (now (out .entry)) (now (out .exit)) r (keyed (rulesOf form) (toneKeys kind) (stripped (now (s .entry)))) ⌝ }
+// Writes the first `n` of `bytes`, and the key behind them.
+fn place_toned(bytes: &mut [u8], n: usize, key: ToneKey, out: &mut [u8]) -> TextAnswer
+    requires { ⌜ n < length (now bytes) ⌝ }
+    ensures { λ r. ⌜ textReply r (now (out .exit)) ≡ placed 0 (take n (now (bytes .entry)) ++ keyText key) (now (out .entry)) ⌝ }
 {
-    let dropped = strip::drop_marks(s);
-    let left = dropped.left;
-    let n = left.0;
-    let last = dropped.tone;
-    let tone = spoken_tone(last, &s[0..n]);
-    let m = respell(form, &mut s[0..n], out);
-    put_key(tone_key(kind, tone), out, m)
+    match key {
+        ToneKey::Nothing => reply::place_bytes(&bytes[0..n], out),
+        ToneKey::Key(k) => {
+            bytes[n] = k;
+            let m = n + 1;
+            reply::place_bytes(&bytes[0..m], out)
+        }
+    }
+}
+
+// Strips the text in a buffer of bytes, and writes its keys. A stripped text of ASCII letters is respelled by no rule.
+fn keys_in(
+    text: &[u8],
+    form: Form,
+    kind: Kind,
+    bytes: &mut [u8],
+    points: &mut [u16],
+    letters: &mut [u16],
+    out: &mut [u8],
+) -> TextAnswer
+    requires { ⌜ (length (now text) ≤ 256) × (5 * length (now text) + 2 ≤ 2 * length (now bytes)) × (length (now bytes) ≤ length (now points) / 3 * 2) × (2 * length (now bytes) < length (now letters)) ⌝ }
+    ensures { λ r. ⌜ textReply r (now (out .exit)) ≡ textCall unicode16 (keys unicode16 form kind) (now (text .entry)) (now (out .entry)) ⌝ }
+{
+    match strip::strip_tone_diacritic(text, bytes) {
+        Strip::Refused(why) => TextAnswer::Refused(why),
+        Strip::Done(result) => {
+            let len = result.len;
+            let n = len.0;
+            let tone = result.tone;
+            let key = tone_key(kind, tone);
+            if unicode::is_ascii(&bytes[0..n]) {
+                return place_toned(bytes, n, key, out);
+            }
+            let m = respell_bytes(form, key, &bytes[0..n], points, letters);
+            reply::place(&letters[0..m], out)
+        }
+    }
+}
+
+// In buffers for a text of at most 8 bytes, as a syllable is: clearing small ones is quicker. A stripped text has at most five bytes for each two of the
+// text, and the key takes one more.
+fn keys_short(text: &[u8], form: Form, kind: Kind, out: &mut [u8]) -> TextAnswer
+    requires { ⌜ length (now text) ≤ 8 ⌝ }
+    ensures { λ r. ⌜ textReply r (now (out .exit)) ≡ textCall unicode16 (keys unicode16 form kind) (now (text .entry)) (now (out .entry)) ⌝ }
+{
+    let mut bytes = [0u8; 22];
+    let mut points = [0u16; 33];
+    let mut letters = [0u16; 45];
+    keys_in(text, form, kind, &mut bytes, &mut points, &mut letters, out)
+}
+
+// In buffers for a text of at most 256 bytes.
+fn keys_long(text: &[u8], form: Form, kind: Kind, out: &mut [u8]) -> TextAnswer
+    requires { ⌜ length (now text) ≤ 256 ⌝ }
+    ensures { λ r. ⌜ textReply r (now (out .exit)) ≡ textCall unicode16 (keys unicode16 form kind) (now (text .entry)) (now (out .entry)) ⌝ }
+{
+    let mut bytes = [0u8; 642];
+    let mut points = [0u16; 963];
+    let mut letters = [0u16; 1285];
+    keys_in(text, form, kind, &mut bytes, &mut points, &mut letters, out)
 }
 
 // `poj_syl_to_key_sequences` and its `_oo` form: the keys of the syllable `text`, in `out`.
 pub fn keys(text: &[u8], form: Form, kind: Kind, out: &mut [u8]) -> TextAnswer
     ensures { λ r. ⌜ textReply r (now (out .exit)) ≡ textCall unicode16 (keys unicode16 form kind) (now (text .entry)) (now (out .entry)) ⌝ }
 {
-    let mut points = [0u16; 384];
-    match nfd::read_nfd(text, &mut points) {
-        Decoded::Refused(why) => TextAnswer::Refused(why),
-        Decoded::Points(len) => {
-            let n = len.0;
-            let mut letters = [0u16; 769];
-            let m = write_keys(form, kind, &mut points[0..n], &mut letters);
-            reply::place(&letters[0..m], out)
-        }
+    if text.len() <= 8 {
+        return keys_short(text, form, kind, out);
     }
+    if text.len() <= 256 {
+        return keys_long(text, form, kind, out);
+    }
+    TextAnswer::Refused(Refusal::TooLong)
 }

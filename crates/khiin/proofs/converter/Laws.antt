@@ -4,13 +4,12 @@ use mathlib.Core.Bool.{Bool, true, false, not, _&&_, _||_}
 use mathlib.Core.List.{List, [], _∷_, _++_, map}
 use Prim.Native.Nat.{ℕ, zero, suc, _+_, _-_, _≤_, _<_}
 use native.Mathlib.Nat.{suc-sub-suc, sub-zero}
-use native.Mathlib.Numerals.{add-one}
 use native.Mathlib.Omega.{arith}
 use native.Mathlib.Decide.{ℕ-discrete}
 use borrow.Author.Tests.{ne-eqb}
 use lib.Dec.{eqb}
-use lib.ListN.{length, take, drop, getD, set, drop-of-length-le}
-use lib.Seq.{length-take-le, take-take, take-suc-set}
+use lib.ListN.{length, take, drop, getD, drop-of-length-le}
+use lib.Seq.{length-take-le, take-take}
 use Rattle.ji.specs.Unicode.{Table, unicode16, member, members, pickText, pickNumber, same, listed}
 use Rattle.ji.specs.Text.{points, marked, point, within, lower, begins, replaceAll, butLast, last, allAscii}
 use Rattle.ji.specs.Utf8.{decode, encode, lastStart, lastPoint}
@@ -436,10 +435,6 @@ module _ (t : Table) (k : ToneKeys) (key : ℕ) (tone : Tone) (rest : List ℕ) 
   composed-bare whole n ew = ap (λ (w : List ℕ). compose t raw w None No) ew ∙ sym (ap (λ (b : Bool). typed b (isTone (keyToTone k (lower key)))) n)
 
 -- ── the buffer of code points
--- a key that was stored behind the first m
-pub stored-key : (p : List ℕ) (m key : ℕ) → m < length p → take (m + 1 - 0) (set p m key) ≡ take m p ++ (key ∷ [])
-stored-key p m key h = ap (λ (n : ℕ). take n (set p m key)) (sub-zero (m + 1) ∙ add-one m) ∙ take-suc-set p m key h
-
 -- without the last two code points, one after the other
 pub but-two : (s : List ℕ) → butLast 1 (butLast 1 s) ≡ butLast 2 s
 unfolding butLast

@@ -12,13 +12,13 @@ use Rattle.ji.specs.Reply.{placed, good, checkPoints}
 use Rattle.ji.specs.Reading.{Reading}
 use Rattle.ji.specs.declared.unicode.CharLen.{CharLen}
 use Rattle.ji.specs.declared.unicode.Decoded.the-variants.{Points}
-use Rattle.ji.proofs.Writing.{written-length, written-take}
+use Rattle.ji.proofs.Writing.{written-length, written-take, stored-key}
 use Rattle.ji.proofs.Readings.{told}
 use Rattle.ji.proofs.unicode.Laws.{spread-plain}
 use Rattle.ji.proofs.unicode.Checked.{points-good, good-same, good-not-bad}
 use Rattle.khiin.specs.Telex.{composedOf, RestIn}
 use Rattle.khiin.proofs.syllable.compose.Reading.{fewer}
-use Rattle.khiin.proofs.converter.Laws.{stored-key, key-behind}
+use Rattle.khiin.proofs.converter.Laws.{key-behind}
 use borrow.Author.Needs.{needs}
 use native.Mathlib.Omega.{arith}
 use Rattle.khiin.proofs.converter.compose_in.Statement.{statement}

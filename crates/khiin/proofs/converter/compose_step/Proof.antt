@@ -12,11 +12,11 @@ use Rattle.ji.specs.Reply.{placed, textReply}
 use Rattle.ji.specs.declared.tone.Tone.{Tone}
 use Rattle.ji.specs.declared.lomaji.khin.Khin.the-variants.{No}
 use Rattle.ji.proofs.Bools.{either, text-yes, text-no}
+use Rattle.ji.proofs.Writing.{stored-key}
 use Rattle.khiin.specs.Syllable.{compose}
 use Rattle.khiin.specs.Converter.{grown}
 use Rattle.khiin.specs.Telex.{composedOf}
 use Rattle.khiin.specs.declared.converter.ToneKeys.{ToneKeys}
-use Rattle.khiin.proofs.converter.Laws.{stored-key}
 use Rattle.ji.specs.declared.reply.TextAnswer.{TextAnswer}
 use borrow.Author.Needs.{needs}
 use native.Mathlib.Omega.{arith}

@@ -3,9 +3,9 @@ use mathlib.Core.List.{List}
 use Prim.Native.Nat.{ℕ}
 use lib.ListN.{length-set}
 use Rattle.ji.specs.Reply.{placed}
-use Rattle.khiin.proofs.converter.Laws.{stored-key}
 use borrow.Author.Needs.{needs}
 use native.Mathlib.Omega.{arith}
+use Rattle.ji.proofs.Writing.{stored-key}
 use Rattle.khiin.proofs.converter.place_key.Statement.{statement}
 use Rattle.khiin.proofs.converter.place_key.Tie as tie
 

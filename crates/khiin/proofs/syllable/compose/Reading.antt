@@ -5,7 +5,7 @@ use mathlib.Core.List.{List, [], _∷_}
 use Prim.Native.Nat.{ℕ, _-_, _*_, _/_, _≤_}
 use native.Mathlib.Nat.{sub-zero}
 use native.Mathlib.Omega.{arith}
-use lib.ListN.{length, take, length-append}
+use lib.ListN.{length, take}
 use Rattle.ji.specs.Unicode.{unicode16, spread}
 use Rattle.ji.specs.Utf8.{bytesOf, encode}
 use Rattle.ji.specs.Written.{Written}
@@ -16,14 +16,10 @@ use Rattle.ji.specs.declared.unicode.Decoded.the-variants.{Points}
 use Rattle.ji.proofs.Writing.{written-take}
 use Rattle.ji.proofs.Replies.{check-within}
 use Rattle.ji.proofs.Readings.{told}
-use Rattle.ji.proofs.unicode.Bytes.{encode-cons, bytes-some}
+pub use Rattle.ji.proofs.unicode.Bytes.{fewer}
 use Rattle.ji.proofs.unicode.Checked.{check-passed}
 
 -- a text has no more code points than bytes
-pub fewer : (s : List ℕ) → length s ≤ length (encode s)
-fewer [] = omega arith
-fewer (x ∷ s) = omega (arith, ap length (encode-cons x s), length-append (bytesOf x) (encode s), bytes-some x, fewer s)
-
 pub points-fewer : (bytes s : List ℕ) → checkText unicode16 bytes ≡ good s → length s ≤ length bytes
 unfolding checkText
 points-fewer bytes s e = omega (arith, fewer s, ap length (check-passed unicode16 256 bytes s e .written))

@@ -23,6 +23,9 @@ enum-told c = search needs
 enum-known-key : tie.Need-enum-known-key
 enum-known-key c = search needs
 
+cast-out : tie.Need-cast-out
+cast-out c = search needs
+
 mul-out : tie.Need-mul-out
 mul-out c = search needs
 
@@ -55,6 +58,7 @@ put-key-spec =
     (tie.spec
     enum-told
     enum-known-key
+    cast-out
     mul-out
     slice-write-out
     add-result
