@@ -5,9 +5,10 @@ use Prim.Native.Nat.{ℕ, suc, _+_, _-_, _≤_, _<_}
 use native.Mathlib.Nat.{sub-zero}
 use native.Mathlib.Numerals.{add-one, add-two}
 use native.Mathlib.Omega.{arith}
-use lib.ListN.{length, take, drop, getD, set, length-append, length-drop, drop-of-length-le}
-use lib.Seq.{drop-cons, set-at, append-snoc, take-at, drop-at, drop-drop, getD-append-add, getD-drop, paste, take-length, take-suc-set, sets-eq}
-use Rattle.ji.specs.Written.{Written}
+use native.Mathlib.Decide.{ℕ-discrete, decLt}
+use lib.ListN.{length, take, drop, getD, set, length-set, length-append, length-drop, drop-of-length-le, List·getD-append}
+use lib.Seq.{drop-cons, set-at, append-snoc, take-at, drop-at, drop-drop, getD-append-add, getD-drop, getD-set-same, getD-set-other, ext-getD, paste, take-length, take-suc-set, sets-eq}
+use Rattle.ji.specs.Written.{Written, Covers}
 
 -- before the first store
 pub written-none : (before : List ℕ) → Written before before 0 []
@@ -102,3 +103,74 @@ module _ (d : List ℕ) (j : ℕ) where
 -- an element that was stored behind the first n
 pub stored-key : (p : List ℕ) (n key : ℕ) → n < length p → take (n + 1 - 0) (set p n key) ≡ take n p ++ (key ∷ [])
 stored-key p n key h = ap (λ (m : ℕ). take m (set p n key)) (sub-zero (n + 1) ∙ add-one n) ∙ take-suc-set p n key h
+
+-- ── elements stored at their own places, in any order
+module _ (s before : List ℕ) (i : ℕ) (h : i < length s) (fits : length s ≤ length before) where
+  stored : (j : ℕ) → Dec (i ≡ j) → getD before j 0 ≡ getD s j 0 → getD (set before i (getD s i 0)) j 0 ≡ getD s j 0
+  stored j (yes e) k = ap (λ (m : ℕ). getD (set before i (getD s i 0)) m 0) (sym e) ∙ getD-set-same before i (getD s i 0) 0 (omega arith) ∙ ap (λ (m : ℕ). getD s m 0) e
+  stored j (no n) k = getD-set-other before i j (getD s i 0) 0 (λ e. n (sym e)) ∙ k
+
+  pub covers-one : Covers s before (set before i (getD s i 0)) i (i + 1)
+  covers-one =
+      record {
+        length-kept = length-set before i (getD s i 0);
+        behind = λ j k. getD-set-other before i j (getD s i 0) 0 (λ e. omega arith);
+        there = λ j k l. let e : j ≡ i = omega arith in ap (λ (m : ℕ). getD (set before i (getD s i 0)) m 0) e ∙ getD-set-same before i (getD s i 0) 0 (omega arith) ∙ ap (λ (m : ℕ). getD s m 0) (sym e);
+        still = λ j k. stored j (ℕ-discrete i j) k;
+      }
+
+-- one after the other: the places of both
+module _ {s a b c : List ℕ} {f t g u : ℕ} (h : Covers s a b f t) (k : Covers s b c g u) where
+  covers-first : Covers s a c f t
+  covers-first =
+      record {
+        length-kept = k .length-kept ∙ h .length-kept;
+        behind = λ j l. k .behind j l ∙ h .behind j l;
+        there = λ j l m. k .still j (h .there j l m);
+        still = λ j l. k .still j (h .still j l);
+      }
+
+  covers-second : Covers s a c g u
+  covers-second =
+      record {
+        length-kept = k .length-kept ∙ h .length-kept;
+        behind = λ j l. k .behind j l ∙ h .behind j l;
+        there = k .there;
+        still = λ j l. k .still j (h .still j l);
+      }
+
+-- two parts that meet
+covers-both : {s a b : List ℕ} {f t g u : ℕ} → Covers s a b f t → Covers s a b g u → g ≤ t → Covers s a b f u
+covers-both {s = s} {b = b} {f = f} {t = t} {u = u} h k meet =
+    record {
+      length-kept = h .length-kept;
+      behind = h .behind;
+      there = λ j l m. in-one j l m (decLt j t);
+      still = h .still;
+    }
+  where
+    in-one : (j : ℕ) → f ≤ j → j < u → Dec (j < t) → getD b j 0 ≡ getD s j 0
+    in-one j l m (yes q) = h .there j l q
+    in-one j l m (no q) = k .there j (omega arith) m
+
+pub covers-next : {s a b c : List ℕ} {f t g u : ℕ} → Covers s a b f t → Covers s b c g u → g ≤ t → Covers s a c f u
+covers-next h k meet = covers-both (covers-first h k) (covers-second h k) meet
+
+-- all places of s
+pub covers-all : {s before after : List ℕ} → length s ≤ length before → Covers s before after 0 (length s) → Written before after (length s) s
+covers-all {s = s} {before = before} {after = after} fits h =
+    record {
+      is = ext-getD 0 after (s ++ drop (length s) before) (omega (arith, h .length-kept, length-append s (drop (length s) before), length-drop (length s) before)) (λ j l. by-place j (decLt j (length s)));
+      size = refl;
+      fits = fits;
+    }
+  where
+    by-place : (j : ℕ) → Dec (j < length s) → getD after j 0 ≡ getD (s ++ drop (length s) before) j 0
+    by-place j (yes k) = h .there j (omega arith) k ∙ sym (List·getD-append s (drop (length s) before) 0 j k)
+    by-place j (no k) =
+        let e : length s + (j - length s) ≡ j = omega arith in
+        h .behind j (omega arith)
+        ∙ ap (λ (m : ℕ). getD before m 0) (sym e)
+        ∙ sym (getD-drop (length s) before (j - length s) 0)
+        ∙ sym (getD-append-add s (drop (length s) before) (j - length s) 0)
+        ∙ ap (λ (m : ℕ). getD (s ++ drop (length s) before) m 0) e

@@ -2,10 +2,10 @@
 use crate::unicode::ByteLen;
 use crate::utf8;
 ghost use mathlib.Core.Path.{_≡_};
-ghost use Prim.Native.Nat.{_≤_};
+ghost use Prim.Native.Nat.{_+_, _≤_, _<_};
 ghost use lib.ListN.{length};
 ghost use Rattle.ji.specs.Utf8.{encode};
-ghost use Rattle.ji.specs.Written.{Written};
+ghost use Rattle.ji.specs.Written.{Written, Covers};
 ghost use Rattle.ji.specs.Reply.{refusalNumber, placed, textReply};
 
 // Why a call is refused.
@@ -53,8 +53,8 @@ pub fn place(s: &[u16], out: &mut [u8]) -> TextAnswer
     TextAnswer::Refused(Refusal::NoRoom)
 }
 
-// Copies the bytes `s` to the front of `out`.
-pub(crate) fn copy(s: &[u8], out: &mut [u8])
+// Copies the bytes `s` to the front of `out`, one after the other.
+fn copy_each(s: &[u8], out: &mut [u8])
     requires { ⌜ length (now s) ≤ length (now out) ⌝ }
     ensures { λ _. ⌜ Written (now (out .entry)) (now (out .exit)) (length (now (s .entry))) (now (s .entry)) ⌝ }
 {
@@ -63,6 +63,50 @@ pub(crate) fn copy(s: &[u8], out: &mut [u8])
         out[i] = s[i];
         i += 1;
     }
+}
+
+// Copies the four bytes of `s` from `at` on to the same places of `out`.
+fn copy_four(s: &[u8], at: usize, out: &mut [u8])
+    requires { ⌜ (at + 4 ≤ length (now s)) × (length (now s) ≤ length (now out)) ⌝ }
+    ensures { λ _. ⌜ Covers (now (s .entry)) (now (out .entry)) (now (out .exit)) at (at + 4) ⌝ }
+{
+    out[at] = s[at];
+    out[at + 1] = s[at + 1];
+    out[at + 2] = s[at + 2];
+    out[at + 3] = s[at + 3];
+}
+
+// Copies at most three bytes: the first, the one in the middle and the last.
+fn copy_few(s: &[u8], out: &mut [u8])
+    requires { ⌜ (length (now s) < 4) × (length (now s) ≤ length (now out)) ⌝ }
+    ensures { λ _. ⌜ Written (now (out .entry)) (now (out .exit)) (length (now (s .entry))) (now (s .entry)) ⌝ }
+{
+    if s.len() == 0 {
+        return;
+    }
+    let middle = s.len() / 2;
+    let last = s.len() - 1;
+    out[0] = s[0];
+    out[middle] = s[middle];
+    out[last] = s[last];
+}
+
+// Copies the bytes `s` to the front of `out`. Most texts have at most eight, which go without a loop: the first four and the last four, though these may
+// share some.
+pub(crate) fn copy(s: &[u8], out: &mut [u8])
+    requires { ⌜ length (now s) ≤ length (now out) ⌝ }
+    ensures { λ _. ⌜ Written (now (out .entry)) (now (out .exit)) (length (now (s .entry))) (now (s .entry)) ⌝ }
+{
+    if 8 < s.len() {
+        copy_each(s, out);
+        return;
+    }
+    if s.len() < 4 {
+        copy_few(s, out);
+        return;
+    }
+    copy_four(s, 0, out);
+    copy_four(s, s.len() - 4, out);
 }
 
 // Writes the bytes `s` of a text to `out`, if there is room for all of them.

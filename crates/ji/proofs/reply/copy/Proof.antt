@@ -1,65 +1,66 @@
-use mathlib.Core.Path.{_≡_, sym, ap, _∙_}
-use mathlib.Core.List.{List, _∷_}
-use Prim.Native.Nat.{ℕ, _+_, _-_, _<_}
-use native.Mathlib.Numerals.{add-one}
-use lib.ListN.{length, drop, getD, drop-of-length-le}
-use lib.Seq.{drop-cons}
-use Rattle.ji.proofs.Writing.{written-length}
-use Rattle.ji.proofs.Underway.{Underway, underway-start, underway-one, underway-end}
+use mathlib.Core.Path.{_≡_, refl, subst}
+use mathlib.Core.List.{List, []}
+use Prim.Native.Nat.{ℕ, _+_, _-_, _/_, _≤_, _<_}
+use lib.ListN.{length, getD, set, length-set}
+use Rattle.ji.specs.Written.{Written, Covers}
+use Rattle.ji.proofs.Writing.{covers-one, covers-next, covers-all}
+use borrow.Author.Needs.{needs}
 use native.Mathlib.Omega.{arith}
 use Rattle.ji.proofs.reply.copy.Statement.{statement}
 use Rattle.ji.proofs.reply.copy.Tie as tie
 
-abbrev Inv-loop : tie.InvT-loop
-Inv-loop s out₀ i₀ out i = Underway (λ (l : List ℕ). l) s out₀ out i i
+copy-each-requires : tie.Need-copy-each-requires
+copy-each-requires c κs = search needs
 
-abbrev μ-loop : tie.MeasureT-loop
-μ-loop s out₀ i₀ out i = length s - i
+same-length : tie.Need-same-length
+same-length c = search needs
 
-loop-holds : tie.Need-loop-holds Inv-loop μ-loop
-loop-holds c = let a = c .args in underway-start (λ (l : List ℕ). l) (a .s .now) (a .out .now)
+returns : tie.Need-returns
+returns c = search needs
 
-shared-slice-read-out : tie.Need-shared-slice-read-out Inv-loop μ-loop
-shared-slice-read-out c = omega arith
+copy-few-requires : tie.Need-copy-few-requires
+copy-few-requires c κs = search needs
 
-slice-write-out : tie.Need-slice-write-out Inv-loop μ-loop
-slice-write-out c = let l = c .before .before in omega (arith, written-length (l .loop .inv .written), l .before .pre)
+same-length-2 : tie.Need-same-length-2
+same-length-2 c = search needs
 
-add-i : tie.Need-add-i Inv-loop μ-loop
-add-i c = omega arith
+returns-2 : tie.Need-returns-2
+returns-2 c = search needs
 
-loop-less : tie.Need-loop-less Inv-loop μ-loop
-loop-less c = omega arith
+copy-four-requires : tie.Need-copy-four-requires
+copy-four-requires c κs = search needs
 
-loop-again : tie.Need-loop-again Inv-loop μ-loop
-loop-again c =
-    let l = c .before .before in
-    let a = l .before .args in
-    let i = l .loop .i in
-    let h : i < length (a .s .now) = c .before .loop-test .taken in
-    underway-one (l .loop .inv) (i + 1) (getD (a .s .now) i 0) (drop-cons (a .s .now) i 0 h ∙ ap (λ (k : ℕ). getD (a .s .now) i 0 ∷ drop k (a .s .now)) (sym (add-one i))) (omega arith) (omega (arith, l .before .pre))
+sub-copy-four : tie.Need-sub-copy-four
+sub-copy-four c = search needs
 
-same-length : tie.Need-same-length Inv-loop μ-loop
-same-length c = written-length (c .before .loop .inv .written)
+copy-four-requires-2 : tie.Need-copy-four-requires-2
+copy-four-requires-2 c κs = search needs
 
-returns : tie.Need-returns Inv-loop μ-loop
-returns c =
-    let l = c .before in
-    let a = l .before .args in
-    let e : length (a .s .now) ≡ l .loop .i = omega (arith, l .loop .inv .inside, c .loop-test .left) in
-    rw e (underway-end (l .loop .inv) (drop-of-length-le (a .s .now) (c .loop-test .left)))
+same-length-3 : tie.Need-same-length-3
+same-length-3 c = search needs
+
+returns-3 : tie.Need-returns-3
+returns-3 c =
+    let k = c .before .before in
+    let f = k .before .before .before .before in
+    let e = f .before .before in
+    let a = e .before .before .before .before in
+    let s = a .args .s .now in
+    let end : length s - 4 + 4 ≡ length s = omega (arith, e .if2 .left) in
+    covers-all (a .pre) (subst (λ (to : ℕ). Covers s (a .args .out .now) (k .copy-four2 .last .1 .1 .0) 0 to) end (covers-next (f .copy-four .ensures) (k .copy-four2 .ensures) (omega (arith, e .before .if1 .left))))
 
 pub copy-spec : {M : Type 1} → statement M
 copy-spec =
     tie.close
     (tie.spec
-    Inv-loop
-    μ-loop
-    loop-holds
-    shared-slice-read-out
-    slice-write-out
-    add-i
-    loop-less
-    loop-again
+    copy-each-requires
     same-length
-    returns)
+    returns
+    copy-few-requires
+    same-length-2
+    returns-2
+    copy-four-requires
+    sub-copy-four
+    copy-four-requires-2
+    same-length-3
+    returns-3)
