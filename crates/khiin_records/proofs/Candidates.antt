@@ -27,7 +27,7 @@ use Rattle.ji.proofs.Bools.{either, false-true, or-no, text-yes, text-no}
 use Rattle.ji.proofs.Replies.{placed-written}
 use Rattle.ji.proofs.Writing.{written-run}
 use Rattle.ji.proofs.unicode.Bytes.{encode-nil, encode-append}
-use Rattle.ji.proofs.unicode.Checked.{Passed, check-passed, check-passes}
+use Rattle.ji.proofs.unicode.Checked.{check-passes}
 use Rattle.ji.proofs.lomaji.khin.Laws.{after-khin-length}
 use Rattle.ji.proofs.lomaji.keys.Bytes.{stripped-bytes}
 use Rattle.khiin_records.specs.Syllable.{Syllable, raw, toneDigit, khinKey, candidate, fromComposed, candidatesOf, candidateIn, candidateOf, candidateCall, placedRecord, recordReply}
@@ -60,10 +60,6 @@ nothing-good = ap (checkText unicode16) (sym encode-nil) ∙ check-passes 256 []
 pub empty-good : (text : List ℕ) → length text ≡ 0 → checkText unicode16 text ≡ good []
 empty-good [] h = nothing-good
 empty-good (b ∷ text) h = absurd (omega (arith, h))
-
-pub passed : (text u : List ℕ) → checkText unicode16 text ≡ good u → Passed unicode16 256 text u
-unfolding checkText
-passed text u e = check-passed unicode16 256 text u e
 
 -- a text that has bytes has code points
 pub some-points : (text u : List ℕ) → encode u ≡ text → 0 < length text → 0 < length u

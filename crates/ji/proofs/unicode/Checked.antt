@@ -15,7 +15,7 @@ use Rattle.ucd.proofs.Unicode16.{member-below}
 use Rattle.ji.specs.Text.{last}
 use Rattle.ji.specs.Utf8.{decode, encode, lastPoint}
 use Rattle.ji.specs.Unicode.{members}
-use Rattle.ji.specs.Reply.{Checked, good, bad, pickChecked, checkPoints, checkWithin}
+use Rattle.ji.specs.Reply.{Checked, good, bad, pickChecked, checkPoints, checkWithin, checkText}
 use Rattle.ji.specs.declared.reply.Refusal.{Refusal}
 use Rattle.ji.specs.declared.reply.Refusal.the-variants.{TooLong, OutsideTable}
 use Rattle.ji.proofs.Bools.{either}
@@ -35,6 +35,9 @@ last-back s h = point-bytes s (members-all unicode16 (λ x. x < 0xD800) (λ c m.
 -- and are that text
 pub points-good : (s : List ℕ) → members unicode16 s ≡ true → checkPoints unicode16 (decode (encode s)) ≡ good s
 points-good s h = ap (checkPoints unicode16) (read-back s h) ∙ ap (λ (b : Bool). pickChecked b (good s) (bad OutsideTable)) h
+
+pub bytes-good : (bytes s : List ℕ) → members unicode16 s ≡ true → bytes ≡ encode s → checkPoints unicode16 (decode bytes) ≡ good s
+bytes-good bytes s h is = ap (λ (l : List ℕ). checkPoints unicode16 (decode l)) is ∙ points-good s h
 
 -- so that they pass the check
 pub check-passes : (limit : ℕ) (s : List ℕ) → members unicode16 s ≡ true → length (encode s) ≤ limit → checkWithin unicode16 limit (encode s) ≡ good s
@@ -74,3 +77,11 @@ module _ (t : Table) (limit : ℕ) (bytes s : List ℕ) where
   pub check-passed : checkWithin t limit bytes ≡ good s → Passed t limit bytes s
   unfolding checkWithin
   check-passed e = by-length (leb (length bytes) limit) refl e
+
+-- the same of a text of at most 256 bytes, and of one of any length
+pub text-passed : (bytes s : List ℕ) → checkText unicode16 bytes ≡ good s → Passed unicode16 256 bytes s
+unfolding checkText
+text-passed bytes s e = check-passed unicode16 256 bytes s e
+
+pub points-passed : (bytes s : List ℕ) → checkPoints unicode16 (decode bytes) ≡ good s → Passed unicode16 (length bytes) bytes s
+points-passed bytes s e = check-passed unicode16 (length bytes) bytes s (within-points unicode16 bytes (length bytes) (omega arith) ∙ e)

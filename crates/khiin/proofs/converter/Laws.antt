@@ -22,9 +22,8 @@ use Rattle.ji.specs.declared.tone.Tone.the-variants.{None, T1, T4}
 use Rattle.ji.specs.declared.lomaji.khin.Khin.the-variants.{No}
 use Rattle.ji.specs.Lomaji.Keys.{respell}
 use Rattle.ji.proofs.Bools.{either, and-yes, and-no, and-true, and-false, and-left, and-right, or-no}
-use Rattle.ji.proofs.Replies.{within-points}
 use Rattle.ji.proofs.unicode.Bytes.{bytes-one, encode-nil, encode-cons, encode-append, last-skip, front-bytes}
-use Rattle.ji.proofs.unicode.Checked.{Passed, check-passed, last-back}
+use Rattle.ji.proofs.unicode.Checked.{Passed, points-passed, last-back}
 use Rattle.ji.proofs.unicode.Ascii.{ascii-at}
 use Rattle.ji.proofs.lomaji.strip.Ascii.{ascii-stripped, ascii-tone}
 use Rattle.ji.proofs.lomaji.tone_letter.Marks.{letter-stripped}
@@ -269,7 +268,7 @@ members-take (suc n) (x ∷ s) h =
 
 module _ (key : ℕ) (given text : List ℕ) (is : checkPoints unicode16 (decode text) ≡ good given) where
   passed : Passed unicode16 (length text) text given
-  passed = check-passed unicode16 (length text) text given (within-points unicode16 text (length text) (omega arith) ∙ is)
+  passed = points-passed text given is
 
   end-read : lastPoint text ≡ last given
   end-read = ap lastPoint (sym (passed .written)) ∙ last-back given (passed .inside)

@@ -8,9 +8,8 @@ use lib.ListN.{length, take, drop}
 use lib.Seq.{take-at}
 use Rattle.ucd.specs.Unicode16.{unicode16}
 use Rattle.ji.specs.Text.{point, points, replaceFrom, replaceAll, begins, allAscii}
-use Rattle.ji.specs.Utf8.{decode, encode}
+use Rattle.ji.specs.Utf8.{encode}
 use Rattle.ji.specs.Unicode.{members}
-use Rattle.ji.specs.Reply.{checkPoints}
 use Rattle.ji.specs.Tone.{toneNumber}
 use Rattle.ji.specs.Lomaji.Strip.{strip}
 use Rattle.ji.specs.Lomaji.Keys.{plainRules, rulesOf, respell, toneKeys, keyed, keys, keyText}
@@ -25,7 +24,7 @@ use Rattle.ji.proofs.Bools.{either, false-true}
 use Rattle.ji.proofs.text.Laws.{begins-split, replace-none, replace-same-length, points-growth}
 use Rattle.ji.proofs.utf8.Encoding.{encode-append}
 use Rattle.ji.proofs.unicode.Ascii.{ascii-take, ascii-drop, ascii-bytes, ascii-good}
-use Rattle.ji.proofs.unicode.Checked.{points-good, good-same}
+use Rattle.ji.proofs.unicode.Checked.{bytes-good, good-same}
 
 -- ── the rules in three parts: o and O with U+0358, U+207F and U+1D3A, o and u with U+0324. The forms differ in the first alone
 pub respell-parts : (f : Form) (s : List ℕ) → respell (rulesOf f) s ≡ respell (drop 4 plainRules) (respell (take 2 (drop 2 plainRules)) (respell (take 2 (rulesOf f)) s))
@@ -112,7 +111,7 @@ tones-ascii Telex = refl
 -- the keys of a stripped text whose bytes are ASCII: these, and the key of the tone
 pub ascii-keys : (f : Form) (k : Kind) (n : ℕ) (rest bytes key : List ℕ) → members unicode16 rest ≡ true → bytes ≡ encode rest → allAscii bytes ≡ true → key ≡ take 1 (drop n (toneKeys k)) → bytes ++ key ≡ encode (respell (rulesOf f) rest ++ key)
 ascii-keys f k n rest bytes key inside is h told =
-    let itself : rest ≡ bytes = good-same (sym (points-good rest inside) ∙ ap (λ (l : List ℕ). checkPoints unicode16 (decode l)) (sym is) ∙ ascii-good bytes h) in
+    let itself : rest ≡ bytes = good-same (sym (bytes-good bytes rest inside is) ∙ ascii-good bytes h) in
     let low : allAscii key ≡ true = ap allAscii told ∙ ascii-take 1 (drop n (toneKeys k)) (ascii-drop n (toneKeys k) (tones-ascii k)) in
     ap₂ (λ (a b : List ℕ). a ++ b) is (sym (ascii-bytes key low))
     ∙ sym (encode-append rest key)

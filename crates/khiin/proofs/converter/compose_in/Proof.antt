@@ -15,7 +15,7 @@ use Rattle.ji.specs.declared.unicode.Decoded.the-variants.{Points}
 use Rattle.ji.proofs.Writing.{written-length, written-take, stored-key}
 use Rattle.ji.proofs.Readings.{told}
 use Rattle.ji.proofs.unicode.Laws.{spread-plain}
-use Rattle.ji.proofs.unicode.Checked.{points-good, good-same, good-not-bad}
+use Rattle.ji.proofs.unicode.Checked.{bytes-good, good-same, good-not-bad}
 use Rattle.khiin.specs.Telex.{composedOf, RestIn}
 use Rattle.khiin.proofs.syllable.compose.Reading.{fewer}
 use Rattle.khiin.proofs.converter.Laws.{key-behind}
@@ -49,7 +49,7 @@ module _ (c : tie.After-points) where
 
   module _ (h : RestIn (start .args .bytes .now) n) where
     good-rest : checkPoints unicode16 (decode part) ≡ good (h .rest)
-    good-rest = ap (λ (l : List ℕ). checkPoints unicode16 (decode l)) (part-is ∙ h .written) ∙ points-good (h .rest) (h .inside)
+    good-rest = bytes-good part (h .rest) (h .inside) (part-is ∙ h .written)
 
     fewest : length (h .rest) ≤ n
     fewest = omega (arith, fewer (h .rest), ap length (h .written), size)

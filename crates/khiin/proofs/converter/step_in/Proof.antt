@@ -8,7 +8,7 @@ use lib.ListN.{length, take}
 use Rattle.ji.specs.Unicode.{unicode16}
 use Rattle.ji.specs.Text.{allAscii}
 use Rattle.ji.specs.Utf8.{encode}
-use Rattle.ji.specs.Reply.{Reply, placed, textCall, good, checkText}
+use Rattle.ji.specs.Reply.{Reply, placed, textCall}
 use Rattle.ji.specs.Lomaji.Strip.{strip, stripReply, unmarkedTone}
 use Rattle.ji.specs.declared.tone.Tone.{Tone}
 use Rattle.ji.specs.declared.lomaji.strip.Strip.{Strip}
@@ -17,7 +17,7 @@ use Rattle.ji.specs.declared.lomaji.strip.StripResult.{StripResult}
 use Rattle.ji.proofs.Writing.{written-length, written-take}
 use Rattle.ji.proofs.Replies.{check-within, text-refused, text-good}
 use Rattle.ji.proofs.unicode.Ascii.{ascii-bytes, ascii-members, ascii-good}
-use Rattle.ji.proofs.unicode.Checked.{Passed, check-passed}
+use Rattle.ji.proofs.unicode.Checked.{Passed, text-passed}
 use Rattle.ji.proofs.lomaji.keys.Bytes.{stripped-bytes}
 use Rattle.ji.proofs.lomaji.strip.Answers.{stripped-inside, stripped-points, Stripping, strip-done, strip-not}
 use Rattle.ji.proofs.lomaji.tone_letter.Marks.{letter-stripped}
@@ -89,10 +89,6 @@ module _ (c : tie.After-strip-tone-diacritic) where
       strip-done (begin .args .text .now) (copied copy-at) (c .strip-tone-diacritic .last .1 .0) r
       (ap (λ (x : Strip). stripReply x (c .strip-tone-diacritic .last .1 .0)) (sym is) ∙ c .strip-tone-diacritic .ensures)
 
-passed : (text u : List ℕ) → checkText unicode16 text ≡ good u → Passed unicode16 256 text u
-unfolding checkText
-passed text u e = check-passed unicode16 256 text u e
-
 -- and the branch is known
 module _ (c : tie.After-edit-of) where
   abbrev strip-at : tie.After-strip-tone-diacritic
@@ -117,7 +113,7 @@ module _ (c : tie.After-edit-of) where
   rest = strip unicode16 u .rest
 
   whole : Passed unicode16 256 (start .args .text .now) u
-  whole = passed (start .args .text .now) u (stripping .good)
+  whole = text-passed (start .args .text .now) u (stripping .good)
 
   bytes-few : 2 * resultOf .len .0 ≤ 5 * length (start .args .text .now)
   bytes-few = omega (arith, stripping .written .size, stripped-bytes u, ap length (whole .written))

@@ -17,12 +17,11 @@ use Rattle.ji.proofs.Writing.{written-take}
 use Rattle.ji.proofs.Replies.{check-within}
 use Rattle.ji.proofs.Readings.{told}
 pub use Rattle.ji.proofs.unicode.Bytes.{fewer}
-use Rattle.ji.proofs.unicode.Checked.{check-passed}
+use Rattle.ji.proofs.unicode.Checked.{text-passed}
 
 -- a text has no more code points than bytes
 pub points-fewer : (bytes s : List ℕ) → checkText unicode16 bytes ≡ good s → length s ≤ length bytes
-unfolding checkText
-points-fewer bytes s e = omega (arith, fewer s, ap length (check-passed unicode16 256 bytes s e .written))
+points-fewer bytes s e = omega (arith, fewer s, ap length (text-passed bytes s e .written))
 
 -- the code points that were read
 pub read : (s before after : List ℕ) {n : ℕ} {answer : Decoded} → length s ≤ 256 → length s ≤ length before / 3 * 2 → answer ≡ Points (record { 0 = n }) → PointsReading unicode16 s before after answer → (u : List ℕ) × (checkText unicode16 s ≡ good u) × Written before after n u
@@ -33,8 +32,7 @@ read s before after h fits e r =
 
 -- the bytes of what was read
 pub read-bytes : (bytes s : List ℕ) → checkText unicode16 bytes ≡ good s → bytes ≡ encode s
-unfolding checkText
-read-bytes bytes s e = sym (check-passed unicode16 256 bytes s e .written)
+read-bytes bytes s e = sym (text-passed bytes s e .written)
 
 -- what was read, as a part `[0..n]` has it
 pub part-text : {before after : List ℕ} {n : ℕ} {u : List ℕ} → Written before after n u → take (n - 0) after ≡ u

@@ -14,9 +14,10 @@ use Rattle.ji.proofs.Writing.{written-length}
 use Rattle.ji.proofs.Readings.{front}
 use Rattle.ji.proofs.unicode.Ascii.{ascii-take}
 use Rattle.ji.proofs.lomaji.strip.Answers.{Stripping, strip-done, strip-not}
+use Rattle.ji.proofs.unicode.Checked.{text-passed}
 use Rattle.khiin_records.specs.Syllable.{candidatesOf}
 use Rattle.khiin_records.specs.Alignment.{nearestOf, alignedWith}
-use Rattle.khiin_records.proofs.Candidates.{passed, some-points, tone-some}
+use Rattle.khiin_records.proofs.Candidates.{some-points, tone-some}
 use Rattle.khiin_records.proofs.Prefixes.{aligned-inside, aligned-text, align-target-refused, align-target-good}
 use borrow.Author.Needs.{needs}
 use native.Mathlib.Omega.{arith}
@@ -111,7 +112,7 @@ returns-2 c =
     (sub-zero (n .result)
     ∙ n .ensures v (front (h .written))
     ∙ ap (λ (t : Tone). alignedWith keys (nearestOf keys (candidatesOf t (khinIn v) (withoutKhin v)))) (h .tone)
-    ∙ aligned-text unicode16 keys u (some-points (a .args .target .now) u (passed (a .args .target .now) u (h .good) .written) (a .pre .1)))
+    ∙ aligned-text unicode16 keys u (some-points (a .args .target .now) u (text-passed (a .args .target .now) u (h .good) .written) (a .pre .1)))
 
 pub align-in-spec : {M : Type 1} → statement M
 align-in-spec =

@@ -9,8 +9,9 @@ use Rattle.ji.specs.declared.lomaji.strip.StripResult.{StripResult}
 use Rattle.ji.proofs.Writing.{written-length}
 use Rattle.ji.proofs.Readings.{front}
 use Rattle.ji.proofs.lomaji.strip.Answers.{stripped-inside, Stripping, strip-done, strip-not}
+use Rattle.ji.proofs.unicode.Checked.{text-passed}
 use Rattle.khiin_records.specs.Syllable.{candidatesOf, candidateIn}
-use Rattle.khiin_records.proofs.Candidates.{candidate-refused, candidate-good, passed, some-points}
+use Rattle.khiin_records.proofs.Candidates.{candidate-refused, candidate-good, some-points}
 use borrow.Author.Needs.{needs}
 use native.Mathlib.Omega.{arith}
 use Rattle.khiin_records.proofs.from_composed.candidate_in.Statement.{statement}
@@ -74,7 +75,7 @@ returns-2 c =
     let a = begin d in
     let h = done d (r .0 .0) (r .1) in
     let u = h .points in
-    let p = passed (a .args .text .now) u (h .good) in
+    let p = text-passed (a .args .text .now) u (h .good) in
     c .before .before .candidate-stripped .ensures (strip unicode16 u .rest) (stripped-inside u (p .inside)) (front (h .written))
     ∙ ap (λ (t : Tone). candidateIn (candidatesOf t (khinIn (strip unicode16 u .rest)) (withoutKhin (strip unicode16 u .rest))) (a .args .position) (a .args .out .now)) (h .tone)
     ∙ candidate-good (a .args .text .now) (a .args .position) (a .args .out .now) u (h .good) (some-points (a .args .text .now) u (p .written) (a .pre .0))

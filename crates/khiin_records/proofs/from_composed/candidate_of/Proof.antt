@@ -17,7 +17,7 @@ use Rattle.ji.proofs.Readings.{front, told}
 use Rattle.ji.proofs.unicode.Laws.{spread-plain}
 use Rattle.ji.proofs.lomaji.khin.Laws.{after-khin-length, after-points, khin-points}
 use Rattle.khiin_records.specs.Syllable.{candidatesOf, candidateIn}
-use Rattle.ji.proofs.unicode.Checked.{points-good, good-same, good-not-bad}
+use Rattle.ji.proofs.unicode.Checked.{bytes-good, good-same, good-not-bad}
 use Rattle.khiin_records.proofs.Records.{members-behind}
 use borrow.Author.Needs.{needs}
 use native.Mathlib.Omega.{arith}
@@ -39,7 +39,7 @@ module _ (c : tie.After-points) where
       (c .points .ensures .0 (rw e (let p = begin .pre .0 in omega (arith, p, after-khin-length (begin .args .stripped .now)))))
 
   good-rest : (u : List ℕ) → members unicode16 u ≡ true → begin .args .stripped .now ≡ encode u → checkPoints unicode16 (decode rest) ≡ good (withoutKhin u)
-  good-rest u m e = ap (λ (l : List ℕ). checkPoints unicode16 (decode l)) (ap afterKhin e ∙ after-points u) ∙ points-good (withoutKhin u) (members-behind u m)
+  good-rest u m e = bytes-good rest (withoutKhin u) (members-behind u m) (ap afterKhin e ∙ after-points u)
 
   read : (len : CharLen) → c .points .result ≡ Points len → (w : List ℕ) × (checkPoints unicode16 (decode rest) ≡ good w) × Written (begin .args .points .now) (c .points .last .1 .0) (len .0) w
   read len is =

@@ -13,8 +13,9 @@ use Rattle.ji.proofs.Writing.{written-length}
 use Rattle.ji.proofs.Readings.{front}
 use Rattle.ji.proofs.lomaji.khin.Laws.{after-points, khin-points}
 use Rattle.ji.proofs.lomaji.strip.Answers.{Stripping, strip-done, strip-not}
+use Rattle.ji.proofs.unicode.Checked.{text-passed}
 use Rattle.khiin_records.specs.Syllable.{candidatesOf, candidateIn}
-use Rattle.khiin_records.proofs.Candidates.{candidate-refused, candidate-good, passed, some-points, rest-fits, tone-some}
+use Rattle.khiin_records.proofs.Candidates.{candidate-refused, candidate-good, some-points, rest-fits, tone-some}
 use borrow.Author.Needs.{needs}
 use native.Mathlib.Omega.{arith}
 use Rattle.khiin_records.proofs.from_composed.quick_in.Statement.{statement}
@@ -68,7 +69,7 @@ write-candidate-requires c κs =
     let d = c .before .before .before .before .before .before .before .before .before .before .before .before .before in
     let r = c .before .before .before .before .before .before .before .before .before .result .given in
     let h = done d (r .0 .0) (r .1) in
-    let p = passed (begin d .args .text .now) (h .points) (h .good) in
+    let p = text-passed (begin d .args .text .now) (h .points) (h .good) in
     let k = rest-fits (c .before .strip-khin .result .now) _ (h .points) (c .before .strip-khin .ensures) (front (h .written)) in
     (ap isTone (h .tone) ∙ tone-some unicode16 (h .points), omega (arith, k, ap length (p .written), begin d .pre .0, begin d .pre .2))
 
@@ -97,7 +98,7 @@ returns-2 c =
     let h = done d (r .0 .0) (r .1) in
     let u = h .points in
     let v = strip unicode16 u .rest in
-    let p = passed (a .text .now) u (h .good) in
+    let p = text-passed (a .text .now) u (h .good) in
     c .before .before .write-candidate .ensures (withoutKhin v) (c .before .before .before .before .strip-khin .ensures ∙ ap afterKhin (front (h .written)) ∙ after-points v)
     ∙ ap (λ (k : Khin). candidateIn (candidatesOf (r .0 .0 .tone) k (withoutKhin v)) (a .position) (a .out .now)) (c .before .before .before .before .before .before .before .khin-of .ensures ∙ ap khinOf (front (h .written)) ∙ khin-points v)
     ∙ ap (λ (t : Tone). candidateIn (candidatesOf t (khinIn v) (withoutKhin v)) (a .position) (a .out .now)) (h .tone)

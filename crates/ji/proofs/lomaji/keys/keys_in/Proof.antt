@@ -11,7 +11,7 @@ use Rattle.ji.specs.Utf8.{encode}
 use Rattle.ji.specs.Unicode.{members}
 use Rattle.ji.specs.Text.{allAscii}
 use Rattle.ji.specs.Tone.{toneNumber}
-use Rattle.ji.specs.Reply.{placed, textCall, good, checkText}
+use Rattle.ji.specs.Reply.{placed, textCall}
 use Rattle.ji.specs.Lomaji.Strip.{strip, stripReply}
 use Rattle.ji.specs.Lomaji.Keys.{rulesOf, respell, keys, keyText}
 use Rattle.ji.specs.declared.lomaji.strip.Strip.{Strip}
@@ -19,7 +19,7 @@ use Rattle.ji.specs.declared.lomaji.strip.StripResult.{StripResult}
 use Rattle.ji.proofs.Writing.{written-length, written-take}
 use Rattle.ji.proofs.Readings.{front}
 use Rattle.ji.proofs.Replies.{text-refused, text-good}
-use Rattle.ji.proofs.unicode.Checked.{Passed, check-passed}
+use Rattle.ji.proofs.unicode.Checked.{Passed, text-passed}
 use Rattle.ji.proofs.lomaji.strip.Answers.{stripped-inside, Stripping, strip-done, strip-not}
 use Rattle.ji.proofs.lomaji.keys.Bytes.{stripped-bytes}
 use Rattle.ji.proofs.lomaji.keys.Laws.{keys-are, ascii-keys}
@@ -27,10 +27,6 @@ use borrow.Author.Needs.{needs}
 use native.Mathlib.Omega.{arith}
 use Rattle.ji.proofs.lomaji.keys.keys_in.Statement.{statement}
 use Rattle.ji.proofs.lomaji.keys.keys_in.Tie as tie
-
-passed : (text u : List ℕ) → checkText unicode16 text ≡ good u → Passed unicode16 256 text u
-unfolding checkText
-passed text u e = check-passed unicode16 256 text u e
 
 -- the text was stripped, and the key of its tone found
 module _ (c : tie.After-tone-key) where
@@ -64,7 +60,7 @@ module _ (c : tie.After-tone-key) where
   rest = strip unicode16 u .rest
 
   whole : Passed unicode16 256 (start .args .text .now) u
-  whole = passed (start .args .text .now) u (stripping .good)
+  whole = text-passed (start .args .text .now) u (stripping .good)
 
   inside : members unicode16 rest ≡ true
   inside = stripped-inside u (whole .inside)

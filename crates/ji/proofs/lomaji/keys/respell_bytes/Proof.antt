@@ -15,19 +15,14 @@ use Rattle.ji.specs.declared.unicode.Decoded.the-variants.{Points}
 use Rattle.ji.specs.declared.lomaji.keys.ToneKey.{ToneKey}
 use Rattle.ji.proofs.Writing.{written-length, written-run}
 use Rattle.ji.proofs.Readings.{front, told}
-use Rattle.ji.proofs.Replies.{within-points}
 use Rattle.ji.proofs.utf8.OneToOne.{fewer}
 use Rattle.ji.proofs.unicode.Laws.{spread-plain}
-use Rattle.ji.proofs.unicode.Checked.{check-passed, points-good, good-same, good-not-bad}
+use Rattle.ji.proofs.unicode.Checked.{bytes-good, points-passed, good-same, good-not-bad}
 use Rattle.ji.proofs.lomaji.keys.Laws.{respell-length, key-length}
 use borrow.Author.Needs.{needs}
 use native.Mathlib.Omega.{arith}
 use Rattle.ji.proofs.lomaji.keys.respell_bytes.Statement.{statement}
 use Rattle.ji.proofs.lomaji.keys.respell_bytes.Tie as tie
-
--- the bytes of a text are checked to be that text
-told-good : (bytes rest : List ℕ) → members unicode16 rest ≡ true → bytes ≡ encode rest → checkPoints unicode16 (decode bytes) ≡ good rest
-told-good bytes rest inside is = ap (λ (l : List ℕ). checkPoints unicode16 (decode l)) is ∙ points-good rest inside
 
 -- the code points were read
 module _ (c : tie.After-points) where
@@ -54,7 +49,7 @@ module _ (c : tie.After-points) where
     read = subst (λ (l : List ℕ). Written (start .args .points .now) after (len .0) l) (spread-plain unicode16 u) (told unicode16 bytes (start .args .points .now) after false is reading .2)
 
     few : length u ≤ length bytes
-    few = omega (arith, fewer u, ap length (check-passed unicode16 (length bytes) bytes u (within-points unicode16 bytes (length bytes) (omega arith) ∙ passes) .written))
+    few = omega (arith, fewer u, ap length (points-passed bytes u passes .written))
 
     -- there is room for the letters, and for the key behind them
     letters-few : length (respell (rulesOf (start .args .form)) (take (len .0 - 0) after)) < length (start .args .letters .now)
@@ -106,7 +101,7 @@ returns : tie.Need-returns
 returns c =
     λ rest inside is.
     let p = c .before .before .before .before in
-    absurd (good-not-bad (sym (told-good _ rest inside is) ∙ told unicode16 _ _ _ false (c .enum-told .given .1) (reading p) .0))
+    absurd (good-not-bad (sym (bytes-good _ rest inside is) ∙ told unicode16 _ _ _ false (c .enum-told .given .1) (reading p) .0))
 
 same-length-2 : tie.Need-same-length-2
 same-length-2 c = search needs
@@ -124,7 +119,7 @@ returns-2 c =
     let n = l .len .given .0 .0 in
     let e = l .len .given .1 in
     let v = r .respell .ensures .1 in
-    let same : take (n .0 - 0) (after p) ≡ rest = front (read p n e) ∙ good-same (sym (passes p n e) ∙ told-good _ rest inside is) in
+    let same : take (n .0 - 0) (after p) ≡ rest = front (read p n e) ∙ good-same (sym (passes p n e) ∙ bytes-good _ rest inside is) in
     let f = start p .args .form in
     let w = subst (λ (s : List ℕ). Written (start p .args .letters .now) (r .respell .last .1 .1 .0) (r .respell .result) (respell (rulesOf f) s)) same v in
     rw (k .put-key .ensures .0, k .put-key .ensures .1) (written-run w (keyText (start p .args .key)) (key-room p n e _ _ v))
