@@ -120,7 +120,8 @@ pub extern "C" fn expected_within(room: usize) -> Expected {
     })
 }
 
-/// The hand-tuned Rust's answer.
+/// The hand-tuned Rust's answer. The comparison's own list of calls has the listing and the normal forms
+/// besides; named here, their branches would count as ones that the search has yet to reach.
 ///
 /// # Safety
 /// The pointers reach as many bytes as the lengths say, and nobody else has the buffer.
