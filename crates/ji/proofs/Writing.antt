@@ -1,13 +1,13 @@
 -- Laws of a buffer that is written from its front (`Written`): how each kind of store takes it one step further, and what it says of the buffer.
-use mathlib.Core.Path.{_≡_, refl, sym, ap, ap₂, _∙_}
-use mathlib.Core.List.{List, [], _∷_, _++_, append-nil}
+use mathlib.Core.Path.{_≡_, refl, sym, ap, ap₂, subst, _∙_}
+use mathlib.Core.List.{List, [], _∷_, _++_, append-assoc, append-nil}
 use Prim.Native.Nat.{ℕ, suc, _+_, _-_, _≤_, _<_}
 use native.Mathlib.Nat.{sub-zero}
 use native.Mathlib.Numerals.{add-one, add-two}
 use native.Mathlib.Omega.{arith}
 use native.Mathlib.Decide.{ℕ-discrete, decLt}
 use lib.ListN.{length, take, drop, getD, set, length-set, length-append, length-drop, drop-of-length-le, List·getD-append}
-use lib.Seq.{drop-cons, set-at, append-snoc, take-at, drop-at, drop-drop, getD-append-add, getD-drop, getD-set-same, getD-set-other, ext-getD, paste, take-length, take-suc-set, sets-eq}
+use lib.Seq.{drop-cons, set-at, append-snoc, take-at, drop-at, drop-drop, getD-append-add, getD-drop, getD-set-same, getD-set-other, ext-getD, paste, take-length, take-all, take-suc-set, sets-eq}
 use Rattle.ji.specs.Written.{Written, Covers}
 
 -- before the first store
@@ -87,6 +87,22 @@ module _ {before after : List ℕ} {n : ℕ} {s : List ℕ} (h : Written before 
             ∙ ap (λ (t : List ℕ). s ++ r ++ t) (sym (drop-drop (length r) n (s ++ drop n before)) ∙ ap (drop (length r)) (drop-at s (drop n before) n sized) ∙ drop-drop (length r) n before);
         size = length-append s r ∙ ap (λ (k : ℕ). k + length r) sized;
         fits = room;
+      }
+
+  -- a text more, that was written to the part of the buffer behind it
+  pub written-behind : {part : List ℕ} {m : ℕ} {r : List ℕ} → Written (take (length after - n) (drop n after)) part m r
+      → Written before (take n after ++ (part ++ drop (length after - n) (drop n after))) (n + m) (s ++ r)
+  written-behind {part} {m} {r} w =
+      let all : length (drop n after) ≤ length after - n = omega (arith, length-drop n after) in
+      let whole : take (length after - n) (drop n after) ≡ drop n before = take-all (length after - n) (drop n after) all ∙ written-drop in
+      let room : m ≤ length (drop n before) = subst (λ (t : List ℕ). m ≤ length t) whole (w .fits) in
+      let front : part ≡ r ++ drop (n + m) before = w .is ∙ ap (λ (t : List ℕ). r ++ drop m t) whole ∙ ap (λ (t : List ℕ). r ++ t) (drop-drop m n before) in
+      record {
+        is = ap₂ (λ (t u : List ℕ). t ++ (part ++ u)) written-take (drop-of-length-le (drop n after) all)
+            ∙ ap (λ (t : List ℕ). s ++ t) (append-nil part ∙ front)
+            ∙ sym (append-assoc s r (drop (n + m) before));
+        size = length-append s r ∙ ap₂ _+_ sized (w .size);
+        fits = omega (arith, length-drop n before, h .fits);
       }
 
 -- straight stores at j, j + 1, j + 2, as a run

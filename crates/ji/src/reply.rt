@@ -2,9 +2,10 @@
 use crate::unicode::ByteLen;
 use crate::utf8;
 ghost use mathlib.Core.Path.{_≡_};
+ghost use mathlib.Core.List.{_++_};
 ghost use Prim.Native.Nat.{_+_, _≤_, _<_};
 ghost use lib.ListN.{length};
-ghost use Rattle.ji.specs.Utf8.{encode};
+ghost use Rattle.ji.specs.Utf8.{bytesOf, encode};
 ghost use Rattle.ji.specs.Written.{Written, Covers};
 ghost use Rattle.ji.specs.Reply.{refusalNumber, placed, textReply};
 
@@ -118,4 +119,25 @@ pub fn place_bytes(s: &[u8], out: &mut [u8]) -> TextAnswer
     }
     copy(s, out);
     TextAnswer::Done(ByteLen(s.len()))
+}
+
+// Writes the bytes `before`, the code point `x` and the bytes `after` to `out`, if there is room for all of them.
+pub fn place_between(before: &[u8], x: u16, after: &[u8], out: &mut [u8]) -> TextAnswer
+    ensures { λ r. ⌜ textReply r (now (out .exit)) ≡ placed 0 (now (before .entry) ++ (bytesOf x ++ now (after .entry))) (now (out .entry)) ⌝ }
+{
+    let size = utf8::byte_count(x);
+    if out.len() < before.len() {
+        return TextAnswer::Refused(Refusal::NoRoom);
+    }
+    let left = out.len() - before.len();
+    if left < size {
+        return TextAnswer::Refused(Refusal::NoRoom);
+    }
+    if left - size < after.len() {
+        return TextAnswer::Refused(Refusal::NoRoom);
+    }
+    copy(before, out);
+    let at = utf8::put_point(x as u32, out, before.len());
+    copy(after, &mut out[at..]);
+    TextAnswer::Done(ByteLen(at + after.len()))
 }

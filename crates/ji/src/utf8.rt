@@ -221,7 +221,8 @@ pub(crate) fn encode(s: &[u16], out: &mut [u8]) -> ByteLen
     ByteLen(n)
 }
 
-fn byte_count(x: u16) -> usize
+// How many bytes the code point `x` takes.
+pub(crate) fn byte_count(x: u16) -> usize
     ensures { λ r. ⌜ (r ≡ length (bytesOf x)) × (r ≤ 3) ⌝ }
 {
     if x <= 0x7F {
