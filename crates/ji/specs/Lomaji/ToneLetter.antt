@@ -11,6 +11,7 @@ use Rattle.ji.specs.Unicode.{toByteLen}
 use Rattle.ji.specs.Reply.{Reply, refused, found, Checked, good, bad, checkText}
 use Rattle.ji.specs.declared.lomaji.tone_letter.ToneLetter.{ToneLetter}
 use Rattle.ji.specs.declared.lomaji.tone_letter.HasToneLetter.{HasToneLetter}
+use Rattle.ji.specs.declared.lomaji.tone_letter.BytePlace.{BytePlace}
 use Rattle.ji.specs.declared.lomaji.tone_letter.Place.{Place}
 use Rattle.ji.specs.declared.lomaji.tone_letter.Place.the-variants.{At, Nowhere}
 
@@ -72,6 +73,10 @@ hasToneLetter t s = isSome (toneLetter (nfd t s))
 abbrev pub placeOf : Place → Option ℕ
 placeOf (At n) = some (n .0)
 placeOf Nowhere = none
+
+abbrev pub bytePlaceOf : BytePlace → Option ℕ
+bytePlaceOf (BytePlace.At n) = some (n .0)
+bytePlaceOf BytePlace.Nowhere = none
 
 -- ── the calls
 -- "no tone letter" is a good answer "with length 0"; a tone letter has length 1 and its position, "counted in bytes"

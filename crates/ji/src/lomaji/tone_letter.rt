@@ -13,7 +13,7 @@ ghost use lib.ListN.{length, drop, getD};
 ghost use Rattle.ucd.specs.Table.{listed};
 ghost use Rattle.ji.specs.Text.{points, point, lower};
 ghost use Rattle.ucd.specs.Unicode16.{unicode16};
-ghost use Rattle.ji.specs.Lomaji.ToneLetter.{patterns, matches, toneLetter, placeOf, isSome, letterAt, toneLetterCall, toneLetterReply, hasLetterReply, hasToneLetterCall, hasToneLetterReply};
+ghost use Rattle.ji.specs.Lomaji.ToneLetter.{patterns, matches, searched, toneLetter, placeOf, bytePlaceOf, isSome, letterAt, toneLetterCall, toneLetterReply, hasLetterReply, hasToneLetterCall, hasToneLetterReply};
 
 // Where a tone letter stands, in code points.
 pub enum Place {
@@ -49,14 +49,10 @@ const U: u16 = b'u' as u16;
 // The patterns go by their numbers, in the order in which they are looked for: 0 is o, a or e, and a final; then o, a, e, u, i, ng, n and m.
 const PATTERNS: usize = 9;
 
-// The code point at `i` with its case ignored, and 0 past the end, which no pattern has.
-fn letter_at(s: &[u16], i: usize) -> u16
-    ensures { λ r. ⌜ r ≡ lower (getD (now (s .entry)) i 0) ⌝ }
+// An ASCII letter in lower case.
+fn lowered(x: u16) -> u16
+    ensures { λ r. ⌜ r ≡ lower x ⌝ }
 {
-    if s.len() <= i {
-        return 0;
-    }
-    let x = s[i];
     if x < b'A' as u16 {
         return x;
     }
@@ -64,6 +60,16 @@ fn letter_at(s: &[u16], i: usize) -> u16
         return x;
     }
     x + 32
+}
+
+// The code point at `i` with its case ignored, and 0 past the end, which no pattern has.
+fn letter_at(s: &[u16], i: usize) -> u16
+    ensures { λ r. ⌜ r ≡ lower (getD (now (s .entry)) i 0) ⌝ }
+{
+    if s.len() <= i {
+        return 0;
+    }
+    lowered(s[i])
 }
 
 // The second letter of the first pattern, which is the tone letter.
@@ -152,18 +158,108 @@ fn letter_of(k: usize) -> usize
     if k == 0 { 1 } else { 0 }
 }
 
+// The first pattern to look for: the first two begin with o, which many texts do not have.
+fn first_tried(s: &[u16]) -> usize
+    ensures { λ r. ⌜ (r ≤ 9) × (toneLetter (now (s .entry)) ≡ searched (drop r patterns) (now (s .entry))) ⌝ }
+{
+    let mut at: usize = 0;
+    while at < s.len() {
+        if is_letter(s[at], O) {
+            return 0;
+        }
+        at += 1;
+    }
+    2
+}
+
 // The place of the tone letter: the first pattern that occurs, at its first place. Finding it ends the search over both.
 pub fn tone_position(s: &[u16]) -> Place
     ensures { λ r. ⌜ placeOf r ≡ toneLetter (now (s .entry)) ⌝ }
 {
     let mut place = Place::Nowhere;
-    let mut k: usize = 0;
+    let mut k = first_tried(s);
     'patterns: while k < PATTERNS {
         let first = first_of(k);
         let mut at: usize = 0;
         while at < s.len() {
             if stands_at(s, at, k, first) {
                 place = Place::At(CharLen(at + letter_of(k)));
+                break 'patterns;
+            }
+            at += 1;
+        }
+        k += 1;
+    }
+    place
+}
+
+// The same of bytes, each taken for a code point, as those of an ASCII text are. A text need not be read into code points for this.
+
+fn ascii_letter_at(s: &[u8], i: usize) -> u16
+    ensures { λ r. ⌜ r ≡ lower (getD (now (s .entry)) i 0) ⌝ }
+{
+    if s.len() <= i {
+        return 0;
+    }
+    lowered(s[i] as u16)
+}
+
+fn ascii_follows_o(s: &[u8], at: usize) -> bool
+    requires { ⌜ at ≤ length (now s) ⌝ }
+    ensures { λ r. ⌜ r ≡ matches ("ae" ∷ "ptkhmni" ∷ []) (drop at (now (s .entry))) ⌝ }
+{
+    if is_a_or_e(ascii_letter_at(s, at)) {
+        return is_final(ascii_letter_at(s, at + 1));
+    }
+    false
+}
+
+fn ascii_stands_at(s: &[u8], at: usize, k: usize, first: u16) -> bool
+    requires { ⌜ (k < 9) × (at < length (now s)) × (first ≡ point (getD (getD patterns k ([], 0) .0) 0 "")) × (0x61 ≤ first) × (first ≤ 0x7A) ⌝ }
+    ensures { λ r. ⌜ r ≡ matches (getD patterns k ([], 0) .0) (drop at (now (s .entry))) ⌝ }
+{
+    if is_letter(s[at] as u16, first) {
+        if k == 0 {
+            return ascii_follows_o(s, at + 1);
+        }
+        if k == 6 {
+            return ascii_letter_at(s, at + 1) == G;
+        }
+        return true;
+    }
+    false
+}
+
+fn ascii_first_tried(s: &[u8]) -> usize
+    ensures { λ r. ⌜ (r ≤ 9) × (toneLetter (now (s .entry)) ≡ searched (drop r patterns) (now (s .entry))) ⌝ }
+{
+    let mut at: usize = 0;
+    while at < s.len() {
+        if is_letter(s[at] as u16, O) {
+            return 0;
+        }
+        at += 1;
+    }
+    2
+}
+
+// Where a tone letter stands, in bytes.
+pub enum BytePlace {
+    At(ByteLen),
+    Nowhere,
+}
+
+pub fn ascii_tone_position(s: &[u8]) -> BytePlace
+    ensures { λ r. ⌜ bytePlaceOf r ≡ toneLetter (now (s .entry)) ⌝ }
+{
+    let mut place = BytePlace::Nowhere;
+    let mut k = ascii_first_tried(s);
+    'patterns: while k < PATTERNS {
+        let first = first_of(k);
+        let mut at: usize = 0;
+        while at < s.len() {
+            if ascii_stands_at(s, at, k, first) {
+                place = BytePlace::At(ByteLen(at + letter_of(k)));
                 break 'patterns;
             }
             at += 1;

@@ -8,7 +8,7 @@ use Prim.Native.String.{String}
 use native.Mathlib.Omega.{arith}
 use native.Mathlib.Numerals.{add-one}
 use native.Mathlib.Decide.{decLe, ℕ-discrete}
-use borrow.Author.Tests.{eq-eqb, ne-eqb}
+use borrow.Author.Tests.{eq-eqb, ne-eqb, eqb-false}
 use lib.Dec.{eqb}
 use lib.ListN.{length, drop, getD, drop-of-length-le, List·getD-eq-default}
 use lib.Seq.{drop-cons}
@@ -225,6 +225,28 @@ module _ (s : List ℕ) where
   pub search-end : (k : ℕ) → length patterns ≤ k → searched (drop k patterns) s ≡ none
   unfolding searched
   search-end k h = ap (λ (ps : List (List String × ℕ)). searched ps s) (drop-of-length-le patterns h)
+
+-- ── a text without o has neither of the first two patterns
+place-none : (p : List String) (s : List ℕ) → ((at : ℕ) → at < length s → matches p (drop at s) ≡ false) → firstPlace p s ≡ none
+unfolding firstPlace
+place-none p [] h = refl
+place-none p (x ∷ s) h =
+    ap (λ (b : Bool). pickPlace b (some 0) (further 1 (firstPlace p s))) (h 0 (omega arith)) ∙ ap (further 1) (place-none p s (λ at l. h (suc at) (omega arith)))
+
+pub no-o : (s : List ℕ) → ((at : ℕ) → at < length s → eqb (lower (getD s at 0)) (point "o") ≡ false) → toneLetter s ≡ searched (drop 2 patterns) s
+no-o s h =
+    search-start s
+    ∙ search-next s 0 (omega arith) (place-none (pattern 0 .0) s (λ at l. not-begun s at 0 (omega arith) _ _ refl refl (eqb-false _ _ (h at l))))
+    ∙ search-next s 1 (omega arith) (place-none (pattern 1 .0) s (λ at l. not-begun s at 1 (omega arith) _ _ refl refl (eqb-false _ _ (h at l))))
+
+-- one place more without it
+pub o-later : (s : List ℕ) (at : ℕ) → ((i : ℕ) → i < at → eqb (lower (getD s i 0)) (point "o") ≡ false) → eqb (lower (getD s at 0)) (point "o") ≡ false
+    → (i : ℕ) → i < at + 1 → eqb (lower (getD s i 0)) (point "o") ≡ false
+o-later s at h e i l = by-place (ℕ-discrete i at)
+  where
+    by-place : Dec (i ≡ at) → eqb (lower (getD s i 0)) (point "o") ≡ false
+    by-place (yes z) = ap (λ (k : ℕ). eqb (lower (getD s k 0)) (point "o")) z ∙ e
+    by-place (no z) = h i (omega arith)
 
 -- ── the tone letter stands in the text
 -- what is n further than a place is some, only where the place is

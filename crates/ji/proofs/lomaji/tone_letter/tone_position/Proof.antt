@@ -4,7 +4,7 @@ use Prim.Native.Nat.{_+_, _-_}
 use lib.ListN.{length, drop}
 use Rattle.ji.specs.Lomaji.ToneLetter.{patterns, further, firstPlace, searched, toneLetter, placeOf}
 use Rattle.ji.specs.declared.lomaji.tone_letter.Place.the-variants.{Nowhere}
-use Rattle.ji.proofs.lomaji.tone_letter.Laws.{pattern, place-start, place-here, place-later, place-end, search-start, search-here, search-next, search-end}
+use Rattle.ji.proofs.lomaji.tone_letter.Laws.{pattern, place-start, place-here, place-later, place-end, search-here, search-next, search-end}
 use borrow.Author.Needs.{needs}
 use native.Mathlib.Omega.{arith}
 use Rattle.ji.proofs.lomaji.tone_letter.tone_position.Statement.{statement}
@@ -23,13 +23,16 @@ abbrev μ-patterns : tie.MeasureT-patterns
 μ-patterns s place₀ k₀ place k = 9 - k
 
 patterns-holds : tie.Need-patterns-holds Inv-loop μ-loop Inv-patterns μ-patterns
-patterns-holds c = (refl, search-start (c .before .args .s .now))
+patterns-holds c = (refl, c .first-tried .ensures .1)
+
+first-tried-requires : tie.Need-first-tried-requires Inv-loop μ-loop Inv-patterns μ-patterns
+first-tried-requires c κs = search needs
 
 first-of-requires : tie.Need-first-of-requires Inv-loop μ-loop Inv-patterns μ-patterns
 first-of-requires c κs = search needs
 
 loop-holds : tie.Need-loop-holds Inv-loop μ-loop Inv-patterns μ-patterns
-loop-holds c = let o = c .before .before in (o .patterns .inv .0, place-start (pattern (o .patterns .k) .0) (o .before .before .args .s .now))
+loop-holds c = let o = c .before .before in (o .patterns .inv .0, place-start (pattern (o .patterns .k) .0) (o .before .before .before .args .s .now))
 
 stands-at-requires : tie.Need-stands-at-requires Inv-loop μ-loop Inv-patterns μ-patterns
 stands-at-requires c κs = search needs
@@ -52,7 +55,7 @@ loop-again c =
     let o = l .before .before .before in (
       l .loop .inv .0,
       l .loop .inv .1
-          ∙ place-later (pattern (o .patterns .k) .0) (o .before .before .args .s .now) (l .loop .at) (c .before .before .loop-test .taken) (sym (c .before .stands-at .ensures) ∙ c .if1 .left),
+          ∙ place-later (pattern (o .patterns .k) .0) (o .before .before .before .args .s .now) (l .loop .at) (c .before .before .loop-test .taken) (sym (c .before .stands-at .ensures) ∙ c .if1 .left),
     )
 
 add-k : tie.Need-add-k Inv-loop μ-loop Inv-patterns μ-patterns
@@ -66,7 +69,7 @@ patterns-again c =
     let l = c .before in
     let o = l .before .before .before in
     let k = o .patterns .k in
-    let s = o .before .before .args .s .now in (
+    let s = o .before .before .before .args .s .now in (
       l .loop .inv .0,
       o .patterns .inv .1
           ∙ search-next s k (l .before .before .patterns-test .taken) (l .loop .inv .1 ∙ place-end (pattern k .0) s (l .loop .at) (c .loop-test .left)),
@@ -75,7 +78,7 @@ patterns-again c =
 returns : tie.Need-returns Inv-loop μ-loop Inv-patterns μ-patterns
 returns c =
     let o = c .before in
-    ap placeOf (o .patterns .inv .0) ∙ sym (o .patterns .inv .1 ∙ search-end (o .before .before .args .s .now) (o .patterns .k) (c .patterns-test .left))
+    ap placeOf (o .patterns .inv .0) ∙ sym (o .patterns .inv .1 ∙ search-end (o .before .before .before .args .s .now) (o .patterns .k) (c .patterns-test .left))
 
 returns-2 : tie.Need-returns-2 Inv-loop μ-loop Inv-patterns μ-patterns
 returns-2 c =
@@ -83,7 +86,7 @@ returns-2 c =
     let l = t .before .before .before in
     let o = l .before .before .before in
     let k = o .patterns .k in
-    let s = o .before .before .args .s .now in
+    let s = o .before .before .before .args .s .now in
     let at = l .loop .at in
     let here = l .loop .inv .1 ∙ place-here (pattern k .0) s at (t .before .before .loop-test .taken) (sym (t .before .stands-at .ensures) ∙ t .if1 .taken) in
     let e : at + c .letter-of .result ≡ pattern k .1 + at = omega (arith, c .letter-of .ensures .0) in
@@ -97,6 +100,7 @@ tone-position-spec =
     μ-loop
     Inv-patterns
     μ-patterns
+    first-tried-requires
     patterns-holds
     first-of-requires
     loop-holds
