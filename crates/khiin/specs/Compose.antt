@@ -7,12 +7,13 @@ use Prim.Native.Nat.{ℕ, zero, suc, _+_, _-_, _≤_, _<_}
 use lib.Dec.{ltb, eqb}
 use lib.ListN.{length, take, drop, getD}
 use Rattle.ji.specs.Unicode.{unicode16, listed, composite}
-use Rattle.ji.specs.Text.{points, marked, point, lower, begins}
+use Rattle.ji.specs.Text.{points, marked, point, lower, begins, allAscii}
+use Rattle.ji.specs.Reply.{Reply, textReply}
 use Rattle.ji.specs.Lomaji.Keys.{respell}
 use Rattle.ji.specs.declared.reply.Refusal.the-variants.{NoRoom}
 use Rattle.ji.specs.declared.reply.TextAnswer.{TextAnswer}
 use Rattle.ji.specs.declared.reply.TextAnswer.the-variants.{Done, Refused}
-use Rattle.khiin.specs.Syllable.{vowelRules, oRules, nasalised, moved}
+use Rattle.khiin.specs.Syllable.{vowelRules, oRules, endsNasal, nasalised, moved}
 use Rattle.khiin.specs.declared.syllable.marking.Mark.{Mark}
 use Rattle.khiin.specs.declared.syllable.marking.Mark.the-variants.{Nothing, Point}
 use Rattle.khiin.specs.declared.syllable.compose.Settled.{Settled}
@@ -72,6 +73,16 @@ pub record DotAt (at : ℕ) (s : List ℕ) : Type 0 where
 unfoldable pub apartFrom : List ℕ → List ℕ → ℕ → List ℕ → Bool
 apartFrom firsts seconds before [] = true
 apartFrom firsts seconds before (x ∷ s) = not (listed firsts before && listed seconds x) && apartFrom firsts seconds x s
+
+-- a body in ASCII that no rule changes: no pair of vowels that is replaced, and no nasal end
+pub record Plain (s : List ℕ) : Type 0 where
+  pub ascii : allAscii s ≡ true
+  pub apart : apartFrom (points "oOeE") (points "oOuU") 0 s ≡ true
+  pub oral : endsNasal s ≡ false
+
+-- what the quick way says by its number: 0 that it wrote nothing, any other the answer
+abbrev pub QuickAs : ℕ → List ℕ → List ℕ → Reply → Type 0
+QuickAs r before after reply = (r ≡ 0 → after ≡ before) × (0 < r → textReply (answerOf r) after ≡ reply)
 
 -- the vowel rules that begin with o, and those that begin with e, for a second vowel in both cases
 abbrev pub oPairs : ℕ → ℕ → List (List ℕ × List ℕ)

@@ -1,7 +1,8 @@
 // The telex step: `convert_to_telex`, its text only.
 use crate::syllable::compose::compose_points;
-use crate::syllable::compose::lower;
+use crate::syllable::letters::lower;
 use crate::syllable::marking::answer;
+use crate::syllable::plain::compose_plain;
 use ji::lomaji::khin::Khin;
 use ji::lomaji::strip;
 use ji::lomaji::strip::Strip;
@@ -416,6 +417,10 @@ fn compose_step(
     let body = typed(k, key, tone, &points[0..m], n, grown_len(key, n));
     let count = body.len;
     let spoken = body.tone;
+    let size = compose_plain(raw, &raw[0..count], spoken, Khin::No, out);
+    if 0 < size {
+        return answer(size);
+    }
     answer(compose_points(raw, points, count, spoken, Khin::No, out))
 }
 
@@ -508,7 +513,7 @@ fn step_in(
     if copy_ascii(text, bytes) {
         tone = strip::unmarked_tone(&bytes[0..n]);
     } else {
-        match strip::strip_tone_diacritic(text, bytes) {
+        match strip::strip_tone_diacritic(&text[0..n], bytes) {
             Strip::Refused(why) => {
                 return TextAnswer::Refused(why);
             }

@@ -1,3 +1,5 @@
 // Syllables.
 pub mod compose;
+pub(crate) mod letters;
 pub(crate) mod marking;
+pub(crate) mod plain;

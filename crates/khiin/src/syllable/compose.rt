@@ -1,8 +1,12 @@
 // `compose`: the text of a syllable. The body is spelled by the rules, in place, the tone mark put to the tone letter, and the whole written in
 // compose's encoding. Most bodies have one pair of vowels at most, and a sign at their end only: for these each rule is one look.
+use crate::syllable::letters::is_first;
+use crate::syllable::letters::is_second;
+use crate::syllable::letters::lower;
 use crate::syllable::marking::answer;
 use crate::syllable::marking::insert_mark;
 use crate::syllable::marking::place_spelled;
+use crate::syllable::plain::compose_plain;
 use ji::lomaji::khin::Khin;
 use ji::reply::Refusal;
 use ji::reply::TextAnswer;
@@ -17,7 +21,7 @@ ghost use mathlib.Core.List.{List, [], _∷_, _++_};
 ghost use Prim.Native.Nat.{ℕ, _+_, _-_, _*_, _/_, _≤_, _<_};
 ghost use lib.ListN.{length, take, drop, getD};
 ghost use Rattle.ji.specs.Unicode.{unicode16, listed};
-ghost use Rattle.ji.specs.Text.{points as pointsOf, marked, begins, replaceAll, lower as lowerOf};
+ghost use Rattle.ji.specs.Text.{points as pointsOf, marked, begins, replaceAll};
 ghost use Rattle.ji.specs.Utf8.{encode};
 ghost use Rattle.ji.specs.Written.{Written};
 ghost use Rattle.ji.specs.Reply.{placed, textReply, good, checkText};
@@ -40,40 +44,7 @@ fn at(s: &[u16], i: usize) -> u16
     s[i]
 }
 
-// An ASCII letter in lower case.
-pub(crate) fn lower(x: u16) -> u16
-    ensures { λ r. ⌜ r ≡ lowerOf x ⌝ }
-{
-    if x < 0x41 {
-        return x;
-    }
-    if 0x5A < x {
-        return x;
-    }
-    x + 32
-}
-
-// The first letter of a pair of vowels that is replaced: o or e.
-fn is_first(c: u16) -> bool
-    ensures { λ r. ⌜ r ≡ listed (pointsOf "oOeE") c ⌝ }
-{
-    match c {
-        0x45 | 0x4F | 0x65 | 0x6F => true,
-        _ => false,
-    }
-}
-
-// The second: o or u.
-fn is_second(c: u16) -> bool
-    ensures { λ r. ⌜ r ≡ listed (pointsOf "oOuU") c ⌝ }
-{
-    match c {
-        0x4F | 0x55 | 0x6F | 0x75 => true,
-        _ => false,
-    }
-}
-
-// Whether such a pair stands at `i`.
+// Whether a pair of vowels that is replaced stands at `i`.
 fn is_pair(s: &[u16], i: usize) -> bool
     requires { ⌜ i < length (now s) ⌝ }
     ensures { λ r. ⌜ r ≡ isPair (drop i (now (s .entry))) ⌝ }
@@ -636,6 +607,21 @@ fn compose_long(raw: &[u8], body: &[u8], tone: Tone, khin: Khin, out: &mut [u8])
     compose_body(raw, body, tone, khin, &mut points, out)
 }
 
+// A body of any length that is allowed.
+fn compose_any(raw: &[u8], body: &[u8], tone: Tone, khin: Khin, out: &mut [u8]) -> TextAnswer
+    requires { ⌜ length (now body) ≤ 256 ⌝ }
+    ensures { λ r. ⌜ ((rawInput : List ℕ) → now (raw .entry) ≡ encode rawInput → textReply r (now (out .exit)) ≡ composeOf unicode16 tone khin (good rawInput) (checkText unicode16 (now (body .entry))) (now (out .entry))) ⌝ }
+{
+    let size = compose_plain(raw, body, tone, khin, out);
+    if 0 < size {
+        return answer(size);
+    }
+    if body.len() <= 16 {
+        return compose_short(raw, body, tone, khin, out);
+    }
+    compose_long(raw, body, tone, khin, out)
+}
+
 // `compose`: the text of the syllable with this raw input, body, tone and khin, in `out`.
 pub fn compose(raw: &[u8], body: &[u8], tone: Tone, khin: Khin, out: &mut [u8]) -> TextAnswer
     ensures { λ r. ⌜ textReply r (now (out .exit)) ≡ composeCall unicode16 (now (raw .entry)) (now (body .entry)) tone khin (now (out .entry)) ⌝ }
@@ -643,13 +629,10 @@ pub fn compose(raw: &[u8], body: &[u8], tone: Tone, khin: Khin, out: &mut [u8]) 
     match unicode::check(raw, 256) {
         Verdict::Refused(why) => TextAnswer::Refused(why),
         Verdict::Good => {
-            if body.len() <= 16 {
-                return compose_short(raw, body, tone, khin, out);
-            }
             if 256 < body.len() {
                 return TextAnswer::Refused(Refusal::TooLong);
             }
-            compose_long(raw, body, tone, khin, out)
+            compose_any(raw, body, tone, khin, out)
         }
     }
 }

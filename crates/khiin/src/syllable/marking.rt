@@ -12,24 +12,24 @@ use ji::tone::Tone;
 use ji::unicode::ByteLen;
 ghost use mathlib.Core.Path.{_≡_};
 ghost use mathlib.Core.Bool.{true};
-ghost use mathlib.Core.List.{List, [], _∷_, _++_};
+ghost use mathlib.Core.List.{List, _∷_, _++_};
 ghost use Prim.Native.Nat.{ℕ, _+_, _*_, _≤_, _<_};
 ghost use lib.ListN.{length, take, drop, getD};
 ghost use Rattle.ji.specs.Unicode.{unicode16, listed};
 ghost use Rattle.ji.specs.Text.{points as pointsOf};
-ghost use Rattle.ji.specs.Utf8.{encode};
+ghost use Rattle.ji.specs.Utf8.{bytesOf, encode};
 ghost use Rattle.ji.specs.Reply.{placed, textReply};
 ghost use Rattle.khiin.specs.Syllable.{markOf, encoded, composedWith};
 ghost use Rattle.khiin.specs.Compose.{Front, markText, answerOf, staysBehind, settledFrom, Joined, inserted};
 
 // What a tone adds.
-enum Mark {
+pub(crate) enum Mark {
     Nothing,
     Point(u16),
 }
 
 // The mark of a tone.
-fn mark_of(tone: Tone) -> Mark
+pub(crate) fn mark_of(tone: Tone) -> Mark
     ensures { λ r. ⌜ markText r ≡ markOf tone ⌝ }
 {
     match tone {
@@ -184,7 +184,7 @@ fn line(x: u16) -> u16
 }
 
 // The same for any tone mark.
-fn joined(x: u16, mark: u16) -> u16
+pub(crate) fn joined(x: u16, mark: u16) -> u16
     ensures { λ r. ⌜ Joined x mark r ⌝ }
 {
     match mark {
@@ -281,10 +281,20 @@ fn place(s: &[u16], out: &mut [u8]) -> usize
 }
 
 // The same of the bytes `s` of a text.
-fn place_bytes(s: &[u8], out: &mut [u8]) -> usize
+pub(crate) fn place_bytes(s: &[u8], out: &mut [u8]) -> usize
     ensures { λ r. ⌜ textReply (answerOf r) (now (out .exit)) ≡ placed 0 (now (s .entry)) (now (out .entry)) ⌝ }
 {
     match reply::place_bytes(s, out) {
+        TextAnswer::Refused(_) => 0,
+        TextAnswer::Done(len) => len.0 + 1,
+    }
+}
+
+// The same of the bytes `before` and `after`, with the code point `x` between them.
+pub(crate) fn place_between(before: &[u8], x: u16, after: &[u8], out: &mut [u8]) -> usize
+    ensures { λ r. ⌜ textReply (answerOf r) (now (out .exit)) ≡ placed 0 (now (before .entry) ++ (bytesOf x ++ now (after .entry))) (now (out .entry)) ⌝ }
+{
+    match reply::place_between(before, x, after, out) {
         TextAnswer::Refused(_) => 0,
         TextAnswer::Done(len) => len.0 + 1,
     }

@@ -1,15 +1,16 @@
-use mathlib.Core.Path.{_≡_, sym, ap, ap₂, _∙_, subst}
+use mathlib.Core.Path.{_≡_, sym, ap, _∙_}
 use mathlib.Core.Bool.{true}
-use mathlib.Core.List.{List, [], _∷_, _++_}
+use mathlib.Core.List.{List}
 use mathlib.Core.Logic.{_⊎_, inl, inr}
-use Prim.Native.Nat.{ℕ, _+_, _-_, _*_, _/_, _≤_, _<_}
+use Prim.Native.Nat.{ℕ, _-_, _*_, _≤_}
 use native.Mathlib.Nat.{sub-zero}
 use lib.ListN.{length, take}
+use lib.Seq.{take-all}
 use Rattle.ji.specs.Unicode.{unicode16}
 use Rattle.ji.specs.Text.{allAscii}
 use Rattle.ji.specs.Utf8.{encode}
 use Rattle.ji.specs.Reply.{Reply, placed, textCall}
-use Rattle.ji.specs.Lomaji.Strip.{strip, stripReply, unmarkedTone}
+use Rattle.ji.specs.Lomaji.Strip.{strip, stripCall, stripReply, unmarkedTone}
 use Rattle.ji.specs.declared.tone.Tone.{Tone}
 use Rattle.ji.specs.declared.lomaji.strip.Strip.{Strip}
 use Rattle.ji.specs.declared.lomaji.strip.Strip.the-variants.{Done}
@@ -79,15 +80,20 @@ module _ (c : tie.After-copy-ascii) where
 -- ── any other text was stripped
 module _ (c : tie.After-strip-tone-diacritic) where
   abbrev copy-at : tie.After-copy-ascii
-  copy-at = c .before .before .before .before .before
+  copy-at = c .before .before .before .before .before .before
 
   abbrev begin : tie.Start
   begin = first copy-at
 
+  called : stripReply (c .strip-tone-diacritic .result) (c .strip-tone-diacritic .last .1 .0) ≡ stripCall unicode16 (begin .args .text .now) (copied copy-at)
+  called =
+      c .strip-tone-diacritic .ensures
+      ∙ ap (λ (l : List ℕ). stripCall unicode16 l (copied copy-at)) (take-all (length (begin .args .text .now) - 0) (begin .args .text .now) (omega arith))
+
   done : (r : StripResult) → c .strip-tone-diacritic .result ≡ Done r → Stripping (begin .args .text .now) (copied copy-at) (c .strip-tone-diacritic .last .1 .0) r
   done r is =
       strip-done (begin .args .text .now) (copied copy-at) (c .strip-tone-diacritic .last .1 .0) r
-      (ap (λ (x : Strip). stripReply x (c .strip-tone-diacritic .last .1 .0)) (sym is) ∙ c .strip-tone-diacritic .ensures)
+      (ap (λ (x : Strip). stripReply x (c .strip-tone-diacritic .last .1 .0)) (sym is) ∙ called)
 
 -- and the branch is known
 module _ (c : tie.After-edit-of) where
@@ -156,10 +162,11 @@ known j =
     one-of (j .if1 .came)
     (λ w. rw (w .4, w .5, w .6, w .7) (ascii-known (j .before .before .before) (w .0 .taken) (w .3 .result) (w .3 .ensures)))
     (λ w.
-    let stripped-at : tie.After-strip-tone-diacritic = record { before = record { before = record { before = j .before; if1 = w .0 }; strip-tone-diacritic-arg = w .1 }; strip-tone-diacritic = w .2 } in
-    let result-at : tie.After-result = record { before = record { before = record { before = record { before = stripped-at; bytes3 = w .3 }; slice-known5 = w .4 }; match = w .5 }; result = w .6 } in
-    let c : tie.After-edit-of = record { before = record { before = record { before = result-at; known-told2 = w .7 }; len = w .8 }; edit-of = w .9 } in
-    rw (w .10, w .11, w .12, w .13) (stripped-known c))
+    let argument-at : tie.After-strip-tone-diacritic-arg2 = record { before = record { before = record { before = j .before; if1 = w .0 }; strip-tone-diacritic-arg = w .1 }; strip-tone-diacritic-arg2 = w .2 } in
+    let stripped-at : tie.After-strip-tone-diacritic = record { before = argument-at; strip-tone-diacritic = w .3 } in
+    let result-at : tie.After-result = record { before = record { before = record { before = record { before = stripped-at; bytes3 = w .4 }; slice-known5 = w .5 }; match = w .6 }; result = w .7 } in
+    let c : tie.After-edit-of = record { before = record { before = record { before = result-at; known-told2 = w .8 }; len = w .9 }; edit-of = w .10 } in
+    rw (w .11, w .12, w .13, w .14) (stripped-known c))
 
 copy-ascii-requires : tie.Need-copy-ascii-requires
 copy-ascii-requires c κs = let p = c .before .before .before .before .before .pre .2 in omega (arith, p)
@@ -178,6 +185,15 @@ part-unmarked-tone-end c =
 
 unmarked-tone-requires : tie.Need-unmarked-tone-requires
 unmarked-tone-requires c κs = search needs
+
+sub-strip-tone-diacritic : tie.Need-sub-strip-tone-diacritic
+sub-strip-tone-diacritic c = search needs
+
+part-strip-tone-diacritic-start : tie.Need-part-strip-tone-diacritic-start
+part-strip-tone-diacritic-start c = search needs
+
+part-strip-tone-diacritic-end : tie.Need-part-strip-tone-diacritic-end
+part-strip-tone-diacritic-end c = search needs
 
 strip-tone-diacritic-requires : tie.Need-strip-tone-diacritic-requires
 strip-tone-diacritic-requires c κs = search needs
@@ -198,7 +214,7 @@ returns c =
     let room : 5 * length (a .args .text .now) ≤ 2 * length (copied (copy-at d)) = let p = a .pre .2 in omega (arith, p, copy-at d .copy-ascii .kept .1 .0) in
     text-refused unicode16 (stepOf unicode16 (a .args .k) (a .args .key)) (a .args .text .now) (a .args .out .now) (why .0 .0)
     (strip-not (a .args .text .now) (copied (copy-at d)) (d .strip-tone-diacritic .last .1 .0) (why .0 .0) room
-    (ap (λ (x : Strip). stripReply x (d .strip-tone-diacritic .last .1 .0)) (sym (why .1)) ∙ d .strip-tone-diacritic .ensures))
+    (ap (λ (x : Strip). stripReply x (d .strip-tone-diacritic .last .1 .0)) (sym (why .1)) ∙ called d))
 
 enum-known-result : tie.Need-enum-known-result
 enum-known-result c = search needs
@@ -239,6 +255,9 @@ step-in-spec =
     part-unmarked-tone-start
     part-unmarked-tone-end
     unmarked-tone-requires
+    sub-strip-tone-diacritic
+    part-strip-tone-diacritic-start
+    part-strip-tone-diacritic-end
     strip-tone-diacritic-requires
     enum-known-why
     same-length

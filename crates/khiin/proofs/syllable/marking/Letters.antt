@@ -1,9 +1,8 @@
 -- A tone mark put into a text that stands at the front of a buffer: behind a letter, or in one with it.
-use mathlib.Core.Path.{_≡_, sym, ap, _∙_, subst}
+use mathlib.Core.Path.{_≡_, sym, ap, _∙_}
 use mathlib.Core.Bool.{true}
-use mathlib.Core.List.{List, [], _∷_, _++_}
+use mathlib.Core.List.{List, _∷_, _++_}
 use mathlib.Core.Logic.{inl}
-use mathlib.Core.Option.{none, some}
 use Prim.Native.Nat.{ℕ, _+_, _-_, _≤_, _<_}
 use native.Mathlib.Nat.{sub-zero}
 use native.Mathlib.Numerals.{add-one}
@@ -12,11 +11,17 @@ use lib.ListN.{length, take, drop, getD, set}
 use lib.Seq.{paste, length-take-le, take-at, take-set-lt, set-split, getD-take}
 use Rattle.ji.specs.Unicode.{unicode16, composite}
 use Rattle.ji.proofs.Writing.{written-none, written-run}
-use Rattle.khiin.specs.Syllable.{encoded}
-use Rattle.khiin.specs.Compose.{Front, inserted, settledFrom, Joined}
+use Rattle.ji.specs.declared.tone.Tone.{Tone}
+use Rattle.khiin.specs.Syllable.{markOf, encoded}
+use Rattle.khiin.specs.Compose.{Front, markText, inserted, settledFrom, Joined}
+use Rattle.khiin.specs.declared.syllable.marking.Mark.{Mark}
 use Rattle.khiin.proofs.syllable.compose.Laws.{front-written, inserted-is}
 use Rattle.khiin.proofs.syllable.marking.Settled.{listed-mark}
 use Rattle.khiin.proofs.syllable.marking.Marked.{marked-one, marked-none}
+
+-- the mark of a tone, as the answer has it
+pub mark-told : (tone : Tone) {m x : Mark} → m ≡ x → markText m ≡ markOf tone → markText x ≡ markOf tone
+mark-told tone e h = ap markText (sym e) ∙ h
 
 -- a text that was put to the front of a buffer
 pub front-put : (s before : List ℕ) {after : List ℕ} {n : ℕ} → length s ≤ length before → (n ≡ 0 + length s) × (after ≡ paste before 0 s (length s)) → Front after n s

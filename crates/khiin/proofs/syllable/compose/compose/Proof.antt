@@ -41,53 +41,38 @@ enum-known-why c = search needs
 enum-told : tie.Need-enum-told
 enum-told c = search needs
 
-compose-short-requires : tie.Need-compose-short-requires
-compose-short-requires c κs = search needs
-
-same-length : tie.Need-same-length
-same-length c = search needs
-
 returns : tie.Need-returns
 returns c =
-    let s = c .before .before in
-    let t = s .before .before .before in
-    let k = t .before .before in
-    let a = k .before .before .before .before .args in
-    let g = found-good (checkWithin unicode16 256 (a .raw .now)) (sym (t .enum-told .given .1) ∙ k .check .ensures) in
-    called (a .raw .now) (a .body .now) (a .tone) (a .khin) (a .out .now) (g .0) (g .1) (s .compose-short .ensures)
-
-returns-2 : tie.Need-returns-2
-returns-2 c =
-    let t = c .before .before in
+    let t = c .before in
     let k = t .before .before in
     let a = k .before .before .before .before .args in
     let g = found-good (checkWithin unicode16 256 (a .raw .now)) (sym (t .enum-told .given .1) ∙ k .check .ensures) in
     called (a .raw .now) (a .body .now) (a .tone) (a .khin) (a .out .now) (g .0) (g .1)
-    (λ rawInput e. sym (ap (λ (k : Checked). composeOf unicode16 (a .tone) (a .khin) (good rawInput) k (a .out .now)) (check-long unicode16 (a .body .now) (c .if2 .taken))))
+    (λ rawInput e. sym (ap (λ (k : Checked). composeOf unicode16 (a .tone) (a .khin) (good rawInput) k (a .out .now)) (check-long unicode16 (a .body .now) (c .if1 .taken))))
 
-compose-long-requires : tie.Need-compose-long-requires
-compose-long-requires c κs = search needs
+compose-any-requires : tie.Need-compose-any-requires
+compose-any-requires c κs = search needs
 
-returns-3 : tie.Need-returns-3
+returns-2 : tie.Need-returns-2
 unfolding composeCall checkText
-returns-3 c =
+returns-2 c =
     let w = c .before in
     let k = w .before .before in
     let a = k .before .before .before .before .args in
     let g = found-bad (checkWithin unicode16 256 (a .raw .now)) (sym (w .why .given .1) ∙ k .check .ensures) in
     sym (ap (λ (k : Checked). composeOf unicode16 (a .tone) (a .khin) k (checkText unicode16 (a .body .now)) (a .out .now)) g)
 
-same-length-2 : tie.Need-same-length-2
-same-length-2 c = search needs
+same-length : tie.Need-same-length
+same-length c = search needs
 
-returns-4 : tie.Need-returns-4
-returns-4 c =
+returns-3 : tie.Need-returns-3
+returns-3 c =
     let s = c .before .before in
-    let t = s .before .before .before .before in
+    let t = s .before .before .before in
     let k = t .before .before in
     let a = k .before .before .before .before .args in
     let g = found-good (checkWithin unicode16 256 (a .raw .now)) (sym (t .enum-told .given .1) ∙ k .check .ensures) in
-    called (a .raw .now) (a .body .now) (a .tone) (a .khin) (a .out .now) (g .0) (g .1) (s .compose-long .ensures)
+    called (a .raw .now) (a .body .now) (a .tone) (a .khin) (a .out .now) (g .0) (g .1) (s .compose-any .ensures)
 
 pub compose-spec : {M : Type 1} → statement M
 compose-spec =
@@ -96,11 +81,8 @@ compose-spec =
     check-requires
     enum-known-why
     enum-told
-    compose-short-requires
-    same-length
     returns
+    compose-any-requires
     returns-2
-    compose-long-requires
-    returns-3
-    same-length-2
-    returns-4)
+    same-length
+    returns-3)

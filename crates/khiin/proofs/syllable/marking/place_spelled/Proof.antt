@@ -1,20 +1,18 @@
-use mathlib.Core.Path.{_≡_, sym, ap, _∙_, subst}
-use mathlib.Core.List.{List, [], _∷_, _++_}
-use mathlib.Core.Option.{Option, none, some}
-use Prim.Native.Nat.{ℕ, _+_, _-_, _≤_, _<_}
+use mathlib.Core.Path.{_≡_, sym, ap, _∙_}
+use mathlib.Core.List.{List}
+use mathlib.Core.Option.{some}
+use Prim.Native.Nat.{ℕ, _-_, _<_}
 use native.Mathlib.Nat.{sub-zero}
-use lib.ListN.{length, take, drop, length-take}
+use lib.ListN.{take, length-take}
 use lib.Seq.{length-take-le}
 use Rattle.ji.specs.Unicode.{unicode16}
 use Rattle.ji.specs.Utf8.{encode}
 use Rattle.ji.specs.Reply.{placed}
 use Rattle.ji.specs.Lomaji.ToneLetter.{toneLetter, placeOf}
-use Rattle.ji.specs.declared.tone.Tone.{Tone}
 use Rattle.ji.specs.declared.lomaji.tone_letter.Place.{Place}
 use Rattle.ji.proofs.lomaji.tone_letter.Laws.{tone-letter-below}
-use Rattle.khiin.specs.Syllable.{markOf, encoded, composedAt, composedWith}
-use Rattle.khiin.specs.Compose.{markText}
-use Rattle.khiin.specs.declared.syllable.marking.Mark.{Mark}
+use Rattle.khiin.specs.Syllable.{encoded, composedAt, composedWith}
+use Rattle.khiin.proofs.syllable.marking.Letters.{mark-told}
 use borrow.Author.Needs.{needs}
 use native.Mathlib.Omega.{arith}
 use Rattle.khiin.proofs.syllable.marking.place_spelled.Statement.{statement}
@@ -26,10 +24,6 @@ found s n e h = ap (λ (k : ℕ). toneLetter (take k s)) (sym (sub-zero n)) ∙ 
 
 below : (s : List ℕ) (n k : ℕ) → toneLetter (take n s) ≡ some k → k < n
 below s n k e = omega (arith, tone-letter-below (take n s) k e, length-take n s)
-
--- the mark, as the answer has it
-marking : (tone : Tone) {m x : Mark} → m ≡ x → markText m ≡ markOf tone → markText x ≡ markOf tone
-marking tone e h = ap markText (sym e) ∙ h
 
 mark-of-requires : tie.Need-mark-of-requires
 mark-of-requires c κs = search needs
@@ -95,7 +89,7 @@ returns c =
     let a = m .before .before .before .before in
     p .place-unmarked .ensures
     ∙ ap (λ (k : ℕ). placed 0 (encode (encoded unicode16 (take k (a .args .s .now)))) (a .args .out .now)) (sub-zero (a .args .n))
-    ∙ ap (λ (mark : List ℕ). placed 0 (encode (composedWith unicode16 rawInput (take (a .args .n) (a .args .s .now)) mark)) (a .args .out .now)) (marking (a .args .tone) (t .enum-told .given .1) (m .mark-of .ensures))
+    ∙ ap (λ (mark : List ℕ). placed 0 (encode (composedWith unicode16 rawInput (take (a .args .n) (a .args .s .now)) mark)) (a .args .out .now)) (mark-told (a .args .tone) (t .enum-told .given .1) (m .mark-of .ensures))
 
 same-length-3 : tie.Need-same-length-3
 same-length-3 c = search needs
@@ -116,7 +110,7 @@ returns-2 c =
     ∙ ap (λ (l : List ℕ). placed 0 l (a .args .out .now)) e
     ∙ ap (λ (l : List ℕ). placed 0 (encode l) (a .args .out .now))
     (ap (composedAt unicode16 rawInput (take (a .args .n) (a .args .s .now)) _) (sym (found (a .args .s .now) (a .args .n) (t .enum-told2 .given .1) (f .tone-position .ensures)))
-    ∙ ap (composedWith unicode16 rawInput (take (a .args .n) (a .args .s .now))) (marking (a .args .tone) (k .mark .given .1) (m .mark-of .ensures)))
+    ∙ ap (composedWith unicode16 rawInput (take (a .args .n) (a .args .s .now))) (mark-told (a .args .tone) (k .mark .given .1) (m .mark-of .ensures)))
 
 same-length-5 : tie.Need-same-length-5
 same-length-5 c = search needs
@@ -136,7 +130,7 @@ returns-3 c =
     p .place-marked .ensures
     ∙ ap (λ (l : List ℕ). placed 0 (encode l) (a .args .out .now))
     (ap (composedAt unicode16 rawInput (take (a .args .n) (a .args .s .now)) _) (sym (found (a .args .s .now) (a .args .n) (t .place .given .1) (f .tone-position .ensures)))
-    ∙ ap (composedWith unicode16 rawInput (take (a .args .n) (a .args .s .now))) (marking (a .args .tone) (k .mark .given .1) (m .mark-of .ensures)))
+    ∙ ap (composedWith unicode16 rawInput (take (a .args .n) (a .args .s .now))) (mark-told (a .args .tone) (k .mark .given .1) (m .mark-of .ensures)))
 
 pub place-spelled-spec : {M : Type 1} → statement M
 place-spelled-spec =

@@ -2,9 +2,8 @@ use mathlib.Core.Path.{sym}
 use Rattle.ji.specs.Text.{lower}
 use Rattle.ji.proofs.Bools.{number-yes, number-no, within-yes, within-below, within-above}
 use borrow.Author.Needs.{needs}
-use native.Mathlib.Omega.{arith}
-use Rattle.khiin.proofs.syllable.compose.lower.Statement.{statement}
-use Rattle.khiin.proofs.syllable.compose.lower.Tie as tie
+use Rattle.khiin.proofs.syllable.letters.lower.Statement.{statement}
+use Rattle.khiin.proofs.syllable.letters.lower.Tie as tie
 
 returns : tie.Need-returns
 unfolding lower
