@@ -1,6 +1,6 @@
 -- Encoding, one code point at a time, and how long it gets.
 use mathlib.Core.Path.{_≡_, refl, sym, ap, _∙_}
-use mathlib.Core.List.{List, [], _∷_, _++_, append-assoc}
+use mathlib.Core.List.{List, [], _∷_, _++_, append-assoc, append-nil}
 use Prim.Native.Nat.{ℕ, suc, _+_, _*_, _/_, _%_, _≤_, _<_}
 use native.Mathlib.Omega.{arith}
 use native.Mathlib.Numerals.{add-one}
@@ -54,6 +54,10 @@ pub encode-append : (s u : List ℕ) → encode (s ++ u) ≡ encode s ++ encode 
 unfolding encode
 encode-append [] u = refl
 encode-append (x ∷ s) u = ap (λ (l : List ℕ). bytesOf x ++ l) (encode-append s u) ∙ sym (append-assoc (bytesOf x) (encode s) (encode u))
+
+-- one code point more at the end
+pub encode-more : (s : List ℕ) (x : ℕ) → encode (s ++ (x ∷ [])) ≡ encode s ++ bytesOf x
+encode-more s x = encode-append s (x ∷ []) ∙ ap (λ (l : List ℕ). encode s ++ l) (encode-cons x [] ∙ ap (λ (l : List ℕ). bytesOf x ++ l) encode-nil ∙ append-nil (bytesOf x))
 
 -- the same at a place
 pub encode-at : (s : List ℕ) (i : ℕ) → i < length s → encode (drop i s) ≡ bytesOf (getD s i 0) ++ encode (drop (i + 1) s)

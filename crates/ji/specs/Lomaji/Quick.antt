@@ -3,21 +3,23 @@ use mathlib.Core.Path.{_≡_}
 use mathlib.Core.Bool.{true}
 use mathlib.Core.List.{List, [], _∷_, _++_}
 use Prim.Native.Nat.{ℕ, _/_, _%_, _<_}
-use Rattle.ucd.specs.Table.{decomposition}
+use Rattle.ucd.specs.Table.{member, decomposition}
 use Rattle.ucd.specs.Unicode16.{unicode16}
 use Rattle.ji.specs.Written.{Written}
 use Rattle.ji.specs.Utf8.{decode, encode}
 use Rattle.ji.specs.Nfd.{Reorderable, Ordered, nfd}
 use Rattle.ji.specs.Reply.{good, checkPoints}
-use Rattle.ji.specs.Lomaji.Strip.{markTone, withoutMarks, droppedMarks, lastTone}
+use Rattle.ji.specs.Lomaji.Strip.{markTone, isToneMark, withoutMarks, droppedMarks, lastTone}
 use Rattle.ji.specs.declared.tone.Tone.the-variants.{None}
 use Rattle.ji.specs.declared.lomaji.quick.Progress.{Progress}
 use Rattle.ji.specs.declared.lomaji.quick.Outcome.{Outcome}
 use Rattle.ji.specs.declared.lomaji.quick.Outcome.the-variants.{Whole, GivenUp}
 
--- x holds the two code points that c decomposes to, the first of them ASCII, or is 0
+-- x holds the two code points that c, of the table, decomposes to, an ASCII character and a tone mark, or is 0
 abbrev pub IsLetter : ℕ → ℕ → Type 0
-IsLetter c x = (x ≡ 0 → ⊥) → (decomposition unicode16 c ≡ (x / 65536) ∷ (x % 65536) ∷ []) × (x / 65536 < 0x80)
+IsLetter c x =
+    (x ≡ 0 → ⊥)
+    → (decomposition unicode16 c ≡ (x / 65536) ∷ (x % 65536) ∷ []) × (x / 65536 < 0x80) × (isToneMark (x % 65536) ≡ true) × (member unicode16 c ≡ true)
 
 -- the code points s, which decompose no further, are stripped as far as p says. While p is sorted, the rest is in order, and stays so with any
 -- code point behind it that is not to be exchanged with the mark that was written last

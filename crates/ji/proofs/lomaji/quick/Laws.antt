@@ -11,9 +11,9 @@ use lib.Seq.{paste}
 use Rattle.ucd.specs.Table.{Table, same, member, decomposition, combiningClass, classIn}
 use Rattle.ucd.specs.Full.{full}
 use Rattle.ucd.specs.Unicode16.{unicode16, classes16}
-use Rattle.ucd.proofs.Tests.{both-left, both-right, same-equal}
+use Rattle.ucd.proofs.Tests.{passes-true, both-left, both-right, same-equal}
 use Rattle.ucd.proofs.Lists.{eachClass, class-passes}
-use Rattle.ucd.proofs.Unicode16.{low-atom, low-starter, full-itself}
+use Rattle.ucd.proofs.Unicode16.{low-atom, low-starter, full-itself, full-two}
 use Rattle.ji.specs.Written.{Written}
 use Rattle.ji.specs.Utf8.{widthAt, pointAt, ReadOf, bytesOf, encode}
 use Rattle.ji.specs.Tone.{isTone}
@@ -28,9 +28,9 @@ use Rattle.ji.proofs.Bools.{either, false-true}
 use Rattle.ji.proofs.Writing.{written-none, written-one, written-run, written-length}
 use Rattle.ji.proofs.Decomposition.{full-nil, full-append}
 use Rattle.ji.proofs.unicode.Reader.{width-within, Taken, taken-start, taken-more, taken-end}
-use Rattle.ji.proofs.utf8.Encoding.{bytes-one, encode-nil, encode-cons, encode-append}
+use Rattle.ji.proofs.utf8.Encoding.{bytes-one, encode-more}
 use Rattle.ji.proofs.lomaji.strip.Laws.{mark-is, no-mark}
-use Rattle.ji.proofs.lomaji.strip.Commuting.{without-mark, without-other, dropped-mark, dropped-other, without-ordered-rest, dropped-order}
+use Rattle.ji.proofs.lomaji.strip.Commuting.{without-mark, without-other, dropped-mark, dropped-other, nfd-without, nfd-dropped}
 
 -- ── order, with one code point more at the end
 module _ (t : Table) where
@@ -68,7 +68,7 @@ high-starter c high = go (class-passes lowClass classes16 classes-low c)
     go (inr h) = absurd (let low : c ≤ 0x036F = leb→le c 0x036F h in let z : ⊥ = omega arith in z)
 
 -- ── stripping, with one code point more at the end
-without-append : (s u : List ℕ) → withoutMarks (s ++ u) ≡ withoutMarks s ++ withoutMarks u
+pub without-append : (s u : List ℕ) → withoutMarks (s ++ u) ≡ withoutMarks s ++ withoutMarks u
 unfolding withoutMarks
 without-append [] u = refl
 without-append (c ∷ s) u =
@@ -76,7 +76,7 @@ without-append (c ∷ s) u =
     (λ e. without-mark c (s ++ u) e ∙ without-append s u ∙ ap (λ (l : List ℕ). l ++ withoutMarks u) (sym (without-mark c s e)))
     (λ e. without-other c (s ++ u) e ∙ ap (λ (l : List ℕ). c ∷ l) (without-append s u) ∙ ap (λ (l : List ℕ). l ++ withoutMarks u) (sym (without-other c s e)))
 
-dropped-append : (s u : List ℕ) → droppedMarks (s ++ u) ≡ droppedMarks s ++ droppedMarks u
+pub dropped-append : (s u : List ℕ) → droppedMarks (s ++ u) ≡ droppedMarks s ++ droppedMarks u
 unfolding droppedMarks
 dropped-append [] u = refl
 dropped-append (c ∷ s) u =
@@ -89,11 +89,11 @@ unfolding lastTone
 last-append o [] m = refl
 last-append o (x ∷ ms) m = last-append (markTone x) ms m
 
-nil-without : withoutMarks [] ≡ []
+pub nil-without : withoutMarks [] ≡ []
 unfolding withoutMarks
 nil-without = refl
 
-nil-dropped : droppedMarks [] ≡ []
+pub nil-dropped : droppedMarks [] ≡ []
 unfolding droppedMarks
 nil-dropped = refl
 
@@ -162,15 +162,12 @@ module _ (before after : List ℕ) (p : Progress) (s : List ℕ) (h : Stripping 
     pub stripping-unsorted : Stripping before after′ (record { n = n; mark = p .mark; behind = x; sorted = false }) (s ++ (x ∷ []))
     stripping-unsorted = record { written = kept; tone = tone-stays; order = λ z. absurd (false-true z) }
 
-  encoded-more : encode (withoutMarks s ++ (x ∷ [])) ≡ encode (withoutMarks s) ++ bytesOf x
-  encoded-more = encode-append (withoutMarks s) (x ∷ []) ∙ ap (λ (l : List ℕ). encode (withoutMarks s) ++ l) (encode-cons x [] ∙ ap (λ (l : List ℕ). bytesOf x ++ l) encode-nil ∙ append-nil (bytesOf x))
-
   -- the bytes of one more code point, and of an ASCII character
   pub written-point : p .n + length (bytesOf x) ≤ length before → Written before (paste after (p .n) (bytesOf x) (length (bytesOf x))) (p .n + length (bytesOf x)) (encode (withoutMarks s ++ (x ∷ [])))
-  written-point room = rw encoded-more (written-run (h .written) (bytesOf x) room)
+  written-point room = rw (encode-more (withoutMarks s) x) (written-run (h .written) (bytesOf x) room)
 
   pub written-ascii : x ≤ 0x7F → p .n < length before → Written before (set after (p .n) x) (p .n + 1) (encode (withoutMarks s ++ (x ∷ [])))
-  written-ascii k room = rw (encoded-more, bytes-one x k) (written-one (h .written) x room)
+  written-ascii k room = rw (encode-more (withoutMarks s) x, bytes-one x k) (written-one (h .written) x room)
 
   -- an ASCII character
   pub stripping-ascii : x < 0x80 → p .n < length after → Stripping before (set after (p .n) x) (record { n = p .n + 1; mark = p .mark; behind = 0; sorted = p .sorted }) (s ++ (x ∷ []))
@@ -188,29 +185,38 @@ further-same e f before s h = rw (← e) (f before s h)
 
 -- a letter of the short lookup, at its code point k
 unfoldable pub isLetter : ℕ → ℕ → Bool
-isLetter k x = same (decomposition unicode16 k) ((x / 65536) ∷ (x % 65536) ∷ []) && ltb (x / 65536) 0x80
+isLetter k x = same (decomposition unicode16 k) ((x / 65536) ∷ (x % 65536) ∷ []) && (ltb (x / 65536) 0x80 && (isToneMark (x % 65536) && member unicode16 k))
 
 pub letter-at : (k x : ℕ) → T (isLetter k x) → (c : ℕ) → c ≡ k → IsLetter c x
 unfolding isLetter
-letter-at k x h c e some = (
-  ap (decomposition unicode16) e ∙ same-equal (decomposition unicode16 k) ((x / 65536) ∷ (x % 65536) ∷ []) (both-left (same (decomposition unicode16 k) ((x / 65536) ∷ (x % 65536) ∷ [])) (ltb (x / 65536) 0x80) h),
-  ltb→lt (x / 65536) 0x80 (both-right (same (decomposition unicode16 k) ((x / 65536) ∷ (x % 65536) ∷ [])) (ltb (x / 65536) 0x80) h),
-)
+letter-at k x h c e some =
+    let both : List ℕ = (x / 65536) ∷ (x % 65536) ∷ [] in
+    let ascii = both-right (same (decomposition unicode16 k) both) (ltb (x / 65536) 0x80 && (isToneMark (x % 65536) && member unicode16 k)) h in
+    let mark = both-right (ltb (x / 65536) 0x80) (isToneMark (x % 65536) && member unicode16 k) ascii in (
+      ap (decomposition unicode16) e ∙ same-equal (decomposition unicode16 k) both (both-left (same (decomposition unicode16 k) both) _ h),
+      ltb→lt (x / 65536) 0x80 (both-left (ltb (x / 65536) 0x80) _ ascii),
+      passes-true _ (both-left (isToneMark (x % 65536)) _ mark),
+      ap (member unicode16) e ∙ passes-true _ (both-right (isToneMark (x % 65536)) _ mark),
+    )
+
+-- its full decomposition
+pub letter-full : (c x : ℕ) → IsLetter c x → (x ≡ 0 → ⊥) → (x / 65536) ∷ (x % 65536) ∷ [] ≡ full unicode16 (c ∷ [])
+letter-full c x h some =
+    let low = h some .1 in
+    sym (full-two c (x / 65536) (x % 65536) (h some .0) ∙ ap (λ (l : List ℕ). l ++ (x % 65536 ∷ [])) (low-atom (x / 65536) (omega arith)))
 
 -- ── the end: what was stripped is the stripped NFD
 module _ (before after : List ℕ) (p : Progress) (u : List ℕ) (h : Stripping before after p (full unicode16 u)) where
   sorted-rest : p .sorted ≡ true → withoutMarks (nfd unicode16 u) ≡ withoutMarks (full unicode16 u)
-  unfolding nfd
   sorted-rest e =
       let q : combiningClass unicode16 0 ≡ 0 = low-starter 0 (omega arith) in
-      without-ordered-rest (full unicode16 u) (ordered-before unicode16 (withoutMarks (full unicode16 u)) 0 (h .order e 0 (λ r. omega arith)))
+      nfd-without u (ordered-before unicode16 (withoutMarks (full unicode16 u)) 0 (h .order e 0 (λ r. omega arith)))
 
   stripped-bytes : p .sorted ≡ true → Written before after (p .n) (encode (withoutMarks (nfd unicode16 u)))
   stripped-bytes e = rw (sorted-rest e) (h .written)
 
   stripped-tone : markTone (p .mark) ≡ lastTone None (droppedMarks (nfd unicode16 u))
-  unfolding nfd
-  stripped-tone = h .tone ∙ ap (lastTone None) (sym (dropped-order (full unicode16 u)))
+  stripped-tone = h .tone ∙ ap (lastTone None) (sym (nfd-dropped u))
 
 -- ── the loop: the first i bytes of s are read and stripped, and there is room for the others, were they ASCII
 pub record Walking (s before out : List ℕ) (i : ℕ) (p : Progress) : Type 0 where

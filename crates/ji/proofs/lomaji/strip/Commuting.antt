@@ -9,8 +9,9 @@ use native.Mathlib.Omega.{arith}
 use lib.Dec.{eqb}
 use borrow.Author.Tests.{eq-eqb, eqb-true}
 use Rattle.ucd.specs.Table.{combiningClass, classIn, pickText}
+use Rattle.ucd.specs.Full.{full}
 use Rattle.ucd.specs.Unicode16.{unicode16, classes16}
-use Rattle.ji.specs.Nfd.{Reorderable, Exchange, here, there, Exchanges, none, more, NoPair, Ordered, order, ofClass}
+use Rattle.ji.specs.Nfd.{Reorderable, Exchange, here, there, Exchanges, none, more, NoPair, Ordered, order, ofClass, nfd}
 use Rattle.ji.specs.Lomaji.Strip.{toneMarks, markIn, isToneMark, withoutMarks, droppedMarks}
 use Rattle.ji.specs.declared.tone.Tone.{Tone}
 use Rattle.ji.proofs.Bools.{either, false-true, or-yes, or-no, text-yes, text-no}
@@ -121,6 +122,11 @@ dropped-of-class (c ∷ s) =
 pub dropped-order : (s : List ℕ) → droppedMarks (order unicode16 s) ≡ droppedMarks s
 dropped-order s = sym (dropped-of-class (order unicode16 s)) ∙ ap droppedMarks (order-stable unicode16 230 s) ∙ dropped-of-class s
 
--- so a text whose rest is in order as it stands is stripped as it stands
-pub without-ordered-rest : (s : List ℕ) → Ordered unicode16 (withoutMarks s) → withoutMarks (order unicode16 s) ≡ withoutMarks s
-without-ordered-rest s h = without-order s ∙ ordered-fixed unicode16 (withoutMarks s) h
+-- so a text whose rest, fully decomposed, is in order as it stands is stripped as it stands
+pub nfd-without : (u : List ℕ) → Ordered unicode16 (withoutMarks (full unicode16 u)) → withoutMarks (nfd unicode16 u) ≡ withoutMarks (full unicode16 u)
+unfolding nfd
+nfd-without u h = without-order (full unicode16 u) ∙ ordered-fixed unicode16 (withoutMarks (full unicode16 u)) h
+
+pub nfd-dropped : (u : List ℕ) → droppedMarks (nfd unicode16 u) ≡ droppedMarks (full unicode16 u)
+unfolding nfd
+nfd-dropped u = dropped-order (full unicode16 u)

@@ -11,16 +11,17 @@ use lib.ListN.{length, drop, getD, drop-of-length-le}
 use lib.Seq.{drop-cons}
 use Rattle.ucd.specs.Table.{Table, pickText, same}
 use Rattle.ji.specs.Text.{lower}
-use Rattle.ji.specs.Utf8.{bytesOf, encode}
+use Rattle.ji.specs.Utf8.{bytesOf, decode, encode}
 use Rattle.ji.specs.Tone.{pickTone, isTone, toneNumber}
 use Rattle.ji.specs.Unicode.{spread}
 use Rattle.ji.specs.Nfd.{order, nfd}
-use Rattle.ji.specs.Reply.{Reply, refused, placed, Checked, good, bad, checkText}
+use Rattle.ji.specs.Reply.{Reply, refused, placed, Checked, good, bad, checkPoints, checkText}
 use Rattle.ji.specs.declared.reply.Refusal.{Refusal}
 use Rattle.ji.specs.Lomaji.Strip.{toneMarks, toneIn, markIn, markTone, isToneMark, withoutMarks, droppedMarks, lastTone, endsIn, endsInAny, stopEndings, unmarkedTone, toneOr, stripped, strippedReply, stripOf, stripCall}
 use Rattle.ji.specs.declared.tone.Tone.{Tone}
 use Rattle.ji.specs.declared.tone.Tone.the-variants.{None, T1, T2, T3, T4, T5, T6, T7, T8, T9}
 use Rattle.ji.proofs.Bools.{either, false-true, and-no, and-yes, and-false, or-yes, or-no, or-false, text-yes, text-no}
+use Rattle.ji.proofs.Replies.{check-within}
 
 -- ── marks
 abbrev Toned : List (ℕ × Tone) → Type 0
@@ -257,3 +258,13 @@ module _ (t : Table) (text buffer : List ℕ) where
   pub strip-good : (s : List ℕ) → checkText t text ≡ good s → strippedReply (order t (spread t true s)) buffer ≡ stripCall t text buffer
   unfolding stripCall spread nfd
   strip-good s e = sym (ap (λ (k : Checked). stripOf t k buffer) e)
+
+  -- a text of which the rest is told by its bytes, and the tone of its last mark
+  pub strip-told : (s : List ℕ) → checkPoints t (decode text) ≡ good s → length text ≤ 256 → (last : Tone) (rest : List ℕ)
+      → last ≡ lastTone None (droppedMarks (nfd t s)) → rest ≡ encode (withoutMarks (nfd t s))
+      → placed (toneNumber (toneOr last (unmarkedTone rest))) rest buffer ≡ stripCall t text buffer
+  unfolding nfd spread
+  strip-told s is short last rest tone left =
+      ap₂ (λ (o : Tone) (l : List ℕ). placed (toneNumber (toneOr o (unmarkedTone l))) l buffer) tone left
+      ∙ stripped-reply (nfd t s) buffer
+      ∙ strip-good s (check-within t text short ∙ is)

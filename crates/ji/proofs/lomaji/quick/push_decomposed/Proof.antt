@@ -1,22 +1,11 @@
-use mathlib.Core.Path.{_≡_, sym, ap, _∙_}
-use mathlib.Core.List.{List, [], _∷_, _++_}
-use Prim.Native.Nat.{ℕ, _/_, _%_}
-use Rattle.ucd.specs.Full.{full}
-use Rattle.ucd.specs.Unicode16.{unicode16}
-use Rattle.ucd.proofs.Unicode16.{low-atom, full-itself, full-one, full-two}
-use Rattle.ji.specs.Lomaji.Quick.{IsLetter}
-use Rattle.ji.proofs.lomaji.quick.Laws.{further-both, further-same}
+use mathlib.Core.Path.{sym}
+use Rattle.ucd.proofs.Unicode16.{full-itself, full-one, full-two}
+use Rattle.ji.proofs.lomaji.quick.Laws.{further-both, further-same, letter-full}
 use Rattle.ji.proofs.unicode.Laws.{told}
 use borrow.Author.Needs.{needs}
 use native.Mathlib.Omega.{arith}
 use Rattle.ji.proofs.lomaji.quick.push_decomposed.Statement.{statement}
 use Rattle.ji.proofs.lomaji.quick.push_decomposed.Tie as tie
-
--- the full decomposition of a letter of the short lookup
-letter-full : (c x : ℕ) → IsLetter c x → (x ≡ 0 → ⊥) → (x / 65536) ∷ (x % 65536) ∷ [] ≡ full unicode16 (c ∷ [])
-letter-full c x h some =
-    let low = h some .1 in
-    sym (full-two c (x / 65536) (x % 65536) (h some .0) ∙ ap (λ (l : List ℕ). l ++ (x % 65536 ∷ [])) (low-atom (x / 65536) (omega arith)))
 
 letter-requires : tie.Need-letter-requires
 letter-requires c κs = search needs
