@@ -3,5 +3,6 @@ pub mod dot;
 pub mod keys;
 pub mod khin;
 mod quick;
+mod single;
 pub mod strip;
 pub mod tone_letter;

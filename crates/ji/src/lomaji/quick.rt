@@ -173,7 +173,7 @@ fn macron_letter(c: u16) -> u32
 }
 
 // The same of both.
-fn letter(c: u16) -> u32
+pub(crate) fn letter(c: u16) -> u32
     ensures { λ r. ⌜ IsLetter c r ⌝ }
 {
     if c < 0x0100 {

@@ -1,6 +1,7 @@
 // `strip_tone_diacritic`: a text without its tone marks, and its tone.
 use crate::lomaji::quick;
 use crate::lomaji::quick::Outcome;
+use crate::lomaji::single;
 use crate::nfd;
 use crate::reply;
 use crate::reply::Refusal;
@@ -241,14 +242,11 @@ fn place_bytes(s: &[u8], last: Tone, out: &mut [u8]) -> Strip
     })
 }
 
-// Strips a text in one walk into a buffer of bytes, or else step by step. An ASCII text is its own NFD and has no mark.
+// Strips a text in one walk into a buffer of bytes, or else step by step.
 fn strip_by(text: &[u8], bytes: &mut [u8], out: &mut [u8]) -> Strip
     requires { ⌜ (length (now text) ≤ 256) × (length (now text) ≤ length (now bytes)) × (length (now bytes) ≤ 65536) ⌝ }
     ensures { λ r. ⌜ stripReply r (now (out .exit)) ≡ stripCall unicode16 (now (text .entry)) (now (out .entry)) ⌝ }
 {
-    if unicode::is_ascii(text) {
-        return place_bytes(text, Tone::None, out);
-    }
     match quick::walk(text, bytes) {
         Outcome::GivenUp => strip_slowly(text, out),
         Outcome::Whole(len, last) => {
@@ -275,15 +273,33 @@ fn strip_long(text: &[u8], out: &mut [u8]) -> Strip
     strip_by(text, &mut bytes, out)
 }
 
-// The text without its tone marks, in NFD, in `out`, and its tone.
+// A text of any kind.
+fn strip_any(text: &[u8], out: &mut [u8]) -> Strip
+    requires { ⌜ length (now text) ≤ 256 ⌝ }
+    ensures { λ r. ⌜ stripReply r (now (out .exit)) ≡ stripCall unicode16 (now (text .entry)) (now (out .entry)) ⌝ }
+{
+    if text.len() <= 32 {
+        return strip_short(text, out);
+    }
+    strip_long(text, out)
+}
+
+// The text without its tone marks, in NFD, in `out`, and its tone. Most texts are kept whole, or have one letter with a mark.
 pub fn strip_tone_diacritic(text: &[u8], out: &mut [u8]) -> Strip
     ensures { λ r. ⌜ stripReply r (now (out .exit)) ≡ stripCall unicode16 (now (text .entry)) (now (out .entry)) ⌝ }
 {
     if 256 < text.len() {
         return Strip::Refused(Refusal::TooLong);
     }
-    if text.len() <= 32 {
-        return strip_short(text, out);
+    let at = single::kept_to(text, 0);
+    if at == text.len() {
+        return place_bytes(text, Tone::None, out);
     }
-    strip_long(text, out)
+    let letter = single::marked_at(text, at);
+    if letter != 0 {
+        if single::kept_to(text, at + 2) == text.len() {
+            return single::place_marked(text, at, letter, out);
+        }
+    }
+    strip_any(text, out)
 }

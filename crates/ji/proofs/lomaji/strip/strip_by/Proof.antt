@@ -1,24 +1,21 @@
-use mathlib.Core.Path.{_≡_, sym, ap, ap₂, _∙_, subst}
+use mathlib.Core.Path.{_≡_, ap, _∙_, subst}
 use mathlib.Core.List.{List}
 use Prim.Native.Nat.{ℕ, _-_, _≤_}
 use native.Mathlib.Nat.{sub-zero}
 use lib.ListN.{length, take}
 use Rattle.ucd.specs.Unicode16.{unicode16}
 use Rattle.ji.specs.Utf8.{encode}
-use Rattle.ji.specs.Unicode.{spread}
 use Rattle.ji.specs.Nfd.{nfd}
 use Rattle.ji.specs.Tone.{toneNumber}
 use Rattle.ji.specs.Reply.{placed}
-use Rattle.ji.specs.Lomaji.Strip.{withoutMarks, droppedMarks, lastTone, toneOr, unmarkedTone, stripCall}
+use Rattle.ji.specs.Lomaji.Strip.{withoutMarks, toneOr, unmarkedTone, stripCall}
 use Rattle.ji.specs.Lomaji.Quick.{Walked}
 use Rattle.ji.specs.declared.tone.Tone.{Tone}
 use Rattle.ji.specs.declared.unicode.ByteLen.{ByteLen}
 use Rattle.ji.specs.declared.lomaji.quick.Outcome.{Outcome}
 use Rattle.ji.specs.declared.lomaji.quick.Outcome.the-variants.{Whole}
 use Rattle.ji.proofs.Writing.{written-take, written-length}
-use Rattle.ji.proofs.Replies.{check-within}
-use Rattle.ji.proofs.lomaji.strip.Laws.{stripped-reply, strip-good}
-use Rattle.ji.proofs.lomaji.strip.Ascii.{ascii-strip}
+use Rattle.ji.proofs.lomaji.strip.Laws.{strip-told}
 use borrow.Author.Needs.{needs}
 use native.Mathlib.Omega.{arith}
 use Rattle.ji.proofs.lomaji.strip.strip_by.Statement.{statement}
@@ -37,27 +34,7 @@ module _ (s before after : List ℕ) (len : ByteLen) (last : Tone) (h : Walked s
   front = ap (λ (k : ℕ). take k after) (sub-zero (len .0)) ∙ written-take (h .2)
 
   whole : placed (toneNumber (toneOr last (unmarkedTone rest))) rest out ≡ stripCall unicode16 s out
-  unfolding nfd spread
-  whole =
-      ap₂ (λ (o : Tone) (l : List ℕ). placed (toneNumber (toneOr o (unmarkedTone l))) l out) (h .3) front
-      ∙ stripped-reply (nfd unicode16 (h .0)) out
-      ∙ strip-good unicode16 s out (h .0) (check-within unicode16 s short ∙ h .1)
-
-is-ascii-requires : tie.Need-is-ascii-requires
-is-ascii-requires c κs = search needs
-
-place-bytes-requires : tie.Need-place-bytes-requires
-place-bytes-requires c κs = search needs
-
-same-length : tie.Need-same-length
-same-length c = search needs
-
-returns : tie.Need-returns
-returns c =
-    let p = c .before .before in
-    let t = p .before .before in
-    let e = t .before .before .before .before .before in
-    p .place-bytes .ensures ∙ ascii-strip (e .args .text .now) (e .args .out .now) (sym (t .before .is-ascii .ensures) ∙ t .if1 .taken) (e .pre .0)
+  whole = strip-told unicode16 s out (h .0) (h .1) short last rest (h .3) front
 
 walk-requires : tie.Need-walk-requires
 walk-requires c κs = search needs
@@ -80,39 +57,35 @@ part-place-bytes-start c = search needs
 part-place-bytes-end : tie.Need-part-place-bytes-end
 part-place-bytes-end c = let w = told _ _ _ _ _ (c .before .before .len .given .1) (c .before .before .before .before .before .before .walk .ensures) .2 in omega (arith, w .fits, written-length w)
 
-place-bytes-requires-2 : tie.Need-place-bytes-requires-2
-place-bytes-requires-2 c κs = search needs
+place-bytes-requires : tie.Need-place-bytes-requires
+place-bytes-requires c κs = search needs
+
+same-length : tie.Need-same-length
+same-length c = search needs
 
 same-length-2 : tie.Need-same-length-2
 same-length-2 c = search needs
 
+returns : tie.Need-returns
+returns c = search needs
+
 same-length-3 : tie.Need-same-length-3
 same-length-3 c = search needs
-
-returns-2 : tie.Need-returns-2
-returns-2 c = search needs
 
 same-length-4 : tie.Need-same-length-4
 same-length-4 c = search needs
 
-same-length-5 : tie.Need-same-length-5
-same-length-5 c = search needs
-
-returns-3 : tie.Need-returns-3
-returns-3 c =
-    let a = c .before .before .before .before .before .before .before .before .before .before .before .before .before .before .before .before .before .before in
+returns-2 : tie.Need-returns-2
+returns-2 c =
+    let a = c .before .before .before .before .before .before .before .before .before .before .before .before .before .before .before .before in
     let w = c .before .before .before .before .before .before .before .before .before .before .before .walk in
-    c .before .before .place-bytes2 .ensures
+    c .before .before .place-bytes .ensures
     ∙ whole (a .args .text .now) (a .args .bytes .now) (w .last .1 .0) _ _ (told _ _ _ _ _ (c .before .before .before .before .before .before .before .len .given .1) (w .ensures)) (a .pre .0) (a .args .out .now)
 
 pub strip-by-spec : {M : Type 1} → statement M
 strip-by-spec =
     tie.close
     (tie.spec
-    is-ascii-requires
-    place-bytes-requires
-    same-length
-    returns
     walk-requires
     enum-told
     strip-slowly-requires
@@ -120,10 +93,10 @@ strip-by-spec =
     sub-place-bytes
     part-place-bytes-start
     part-place-bytes-end
-    place-bytes-requires-2
+    place-bytes-requires
+    same-length
     same-length-2
+    returns
     same-length-3
-    returns-2
     same-length-4
-    same-length-5
-    returns-3)
+    returns-2)
