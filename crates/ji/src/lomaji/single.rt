@@ -46,19 +46,32 @@ fn is_nasal(s: &[u8], i: usize) -> bool
     false
 }
 
+// Where the first byte from `from` on stands that is not ASCII. Most bytes are, and a loop of its own is the quickest way past them.
+fn ascii_to(s: &[u8], from: usize) -> usize
+    requires { ⌜ from ≤ length (now s) ⌝ }
+    ensures { λ r. ⌜ (from ≤ r) × (r ≤ length (now (s .entry))) × KeptTo (now (s .entry)) from r ⌝ }
+{
+    let mut i = from;
+    while i < s.len() {
+        if 0x7F < s[i] {
+            return i;
+        }
+        i += 1;
+    }
+    i
+}
+
 // Where the first code point from `from` on stands that is not ASCII, U+0358 or ⁿ; these are their own NFD, and no tone marks.
 pub(crate) fn kept_to(s: &[u8], from: usize) -> usize
     requires { ⌜ from ≤ length (now s) ⌝ }
     ensures { λ r. ⌜ (r ≤ length (now (s .entry))) × KeptTo (now (s .entry)) from r ⌝ }
 {
-    let mut i = from;
+    let mut i = ascii_to(s, from);
     while i < s.len() {
-        if s[i] < 0x80 {
-            i += 1;
-        } else if is_dot(s, i) {
-            i += 2;
+        if is_dot(s, i) {
+            i = ascii_to(s, i + 2);
         } else if is_nasal(s, i) {
-            i += 3;
+            i = ascii_to(s, i + 3);
         } else {
             return i;
         }

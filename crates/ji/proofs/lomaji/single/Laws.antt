@@ -233,6 +233,14 @@ kept-more s from i to x k h here = (
   k .2 ∙ ap (λ (l : List ℕ). encode (k .0) ++ l) here ∙ sym (append-assoc (encode (k .0)) (bytesOf x) (drop to s)) ∙ ap (λ (l : List ℕ). l ++ drop to s) (sym (encode-more (k .0) x)),
 )
 
+-- one part behind another
+pub kept-on : (s : List ℕ) (from i to : ℕ) → KeptTo s from i → KeptTo s i to → KeptTo s from to
+kept-on s from i to k l = (
+  k .0 ++ l .0,
+  all-append Kept (k .0) (l .0) (k .1) (l .1),
+  k .2 ∙ ap (λ (t : List ℕ). encode (k .0) ++ t) (l .2) ∙ sym (append-assoc (encode (k .0)) (encode (l .0)) (drop to s)) ∙ ap (λ (t : List ℕ). t ++ drop to s) (sym (encode-append (k .0) (l .0))),
+)
+
 -- a letter with a mark, read from its two bytes: what decomposes is not ASCII
 not-ascii : (c a b : ℕ) → decomposition unicode16 c ≡ a ∷ b ∷ [] → 0x7F < c
 not-ascii c a b e = by-size (decLe c 0x7F)
