@@ -24,8 +24,9 @@ do
     dpkg-query -W -f '${Status}' "$package" 2>/dev/null | grep -q 'ok installed' ||
         missing="$missing $package"
 done
+# A new machine has no lists of packages yet.
 # shellcheck disable=SC2086
-[ -z "$missing" ] || apt-get install -y $missing >&2
+[ -z "$missing" ] || { apt-get update && apt-get install -y $missing; } >&2
 
 # Links one file of the Rust's folder $1 at its own path.
 link() {

@@ -32,7 +32,7 @@ install_packages() {
             missing="$missing $package"
     done
     # shellcheck disable=SC2086
-    [ -z "$missing" ] || apt-get install -y $missing >&2
+    [ -z "$missing" ] || { apt-get update && apt-get install -y $missing; } >&2
 }
 
 # The Rust. Only the last crate, which holds the hand-tuned version, is built with coverage. Its use of the C library is led to plain.c.
