@@ -15,7 +15,7 @@ use Rattle.ji.specs.Written.{Written}
 use Rattle.ji.specs.Tone.{toneNumber, isTone, pickTone}
 use Rattle.ji.specs.Nfd.{nfd}
 use Rattle.ji.specs.Reply.{refused, Checked, good, bad, checkText}
-use Rattle.ji.specs.Lomaji.Khin.{afterKhin, withoutKhin, khinIn}
+use Rattle.ji.specs.Lomaji.Khin.{withoutKhin, khinIn}
 use Rattle.ji.specs.Lomaji.Strip.{toneMarks, toneIn, markIn, markTone, isToneMark, droppedMarks, lastTone, unmarkedTone, stripped, strip, endsInAny, stopEndings}
 use Rattle.ji.specs.declared.reply.Refusal.{Refusal}
 use Rattle.ji.specs.declared.reply.Refusal.the-variants.{Position}
@@ -28,7 +28,6 @@ use Rattle.ji.proofs.Replies.{placed-written}
 use Rattle.ji.proofs.Writing.{written-run}
 use Rattle.ji.proofs.unicode.Bytes.{encode-nil, encode-append}
 use Rattle.ji.proofs.unicode.Checked.{check-passes}
-use Rattle.ji.proofs.lomaji.khin.Laws.{after-khin-length}
 use Rattle.ji.proofs.lomaji.keys.Bytes.{stripped-bytes}
 use Rattle.khiin_records.specs.Syllable.{Syllable, raw, toneDigit, khinKey, candidate, fromComposed, candidatesOf, candidateIn, candidateOf, candidateCall, placedRecord, recordReply}
 use Rattle.khiin_records.specs.Records.{RecordOf}
@@ -179,6 +178,6 @@ pub tone-some : (t : Table) (s : List ℕ) → isTone (strip t s .tone) ≡ true
 unfolding stripped
 tone-some t s = last-some _ (unmarked-some _) (nfd t s)
 
--- what is left of a stripped text behind khin is no longer than the stripped text
-pub rest-fits : (rest part u : List ℕ) → rest ≡ afterKhin part → part ≡ encode (strip unicode16 u .rest) → 2 * length rest ≤ 5 * length (encode u)
-rest-fits rest part u e f = omega (arith, ap length e, after-khin-length part, ap length f, stripped-bytes u)
+-- a stripped text has at most five bytes for each two of the text
+pub stripped-fits : (part u : List ℕ) → part ≡ encode (strip unicode16 u .rest) → 2 * length part ≤ 5 * length (encode u)
+stripped-fits part u e = omega (arith, ap length e, stripped-bytes u)

@@ -188,7 +188,7 @@ fn choose(
     Recorded::Refused(Refusal::Position)
 }
 
-// The candidate at the position of a stripped text, from its bytes.
+// The plain way, for any buffer: the candidate at the position of a stripped text, by its code points.
 fn candidate_of(
     stripped: &[u8],
     tone: Tone,
@@ -213,7 +213,7 @@ fn candidate_of(
 }
 
 // The same with buffers for any text. They stand here and not in the callers, so that the quick way does not make room for them.
-fn candidate_stripped(stripped: &[u8], tone: Tone, position: u64, out: &mut [u8]) -> Recorded
+fn candidate_points(stripped: &[u8], tone: Tone, position: u64, out: &mut [u8]) -> Recorded
     requires { ⌜ length (now stripped) ≤ 640 ⌝ }
     ensures { λ r. ⌜ ((u : List ℕ) → members unicode16 u ≡ true → now (stripped .entry) ≡ encode u
         → recordReply r (now (out .exit)) ≡ candidateIn (candidatesOf tone (khinIn u) (withoutKhin u)) position (now (out .entry))) ⌝ }
@@ -221,40 +221,6 @@ fn candidate_stripped(stripped: &[u8], tone: Tone, position: u64, out: &mut [u8]
     let mut points = [0u16; 960];
     let mut letters = [0u16; 1922];
     candidate_of(stripped, tone, &mut points, &mut letters, position, out)
-}
-
-// The candidate at the position of a text that is not empty.
-fn candidate_in(text: &[u8], stripped: &mut [u8], position: u64, out: &mut [u8]) -> Recorded
-    requires { ⌜ (0 < length (now text)) × (5 * length (now text) ≤ 2 * length (now stripped)) × (length (now stripped) ≤ 640) ⌝ }
-    ensures { λ r. ⌜ recordReply r (now (out .exit)) ≡ candidateCall unicode16 (now (text .entry)) position (now (out .entry)) ⌝ }
-{
-    match strip::strip_tone_diacritic(text, stripped) {
-        Strip::Refused(why) => Recorded::Refused(why),
-        Strip::Done(result) => {
-            let len = result.len;
-            let n = len.0;
-            let tone = result.tone;
-            candidate_stripped(&stripped[0..n], tone, position, out)
-        }
-    }
-}
-
-// A text of at most 16 bytes: clearing a small buffer is quicker.
-fn candidate_short(text: &[u8], position: u64, out: &mut [u8]) -> Recorded
-    requires { ⌜ (0 < length (now text)) × (length (now text) ≤ 16) ⌝ }
-    ensures { λ r. ⌜ recordReply r (now (out .exit)) ≡ candidateCall unicode16 (now (text .entry)) position (now (out .entry)) ⌝ }
-{
-    let mut stripped = [0u8; 40];
-    candidate_in(text, &mut stripped, position, out)
-}
-
-// A text of at most 256 bytes.
-fn candidate_long(text: &[u8], position: u64, out: &mut [u8]) -> Recorded
-    requires { ⌜ (0 < length (now text)) × (length (now text) ≤ 256) ⌝ }
-    ensures { λ r. ⌜ recordReply r (now (out .exit)) ≡ candidateCall unicode16 (now (text .entry)) position (now (out .entry)) ⌝ }
-{
-    let mut stripped = [0u8; 640];
-    candidate_in(text, &mut stripped, position, out)
 }
 
 // The one candidate of the empty text: the default.
@@ -273,7 +239,7 @@ fn default_at(position: u64, out: &mut [u8]) -> Recorded
     Recorded::Refused(Refusal::Position)
 }
 
-// The quick way, for a short text and a buffer with room to spare: one walk from the bytes of the stripped text to the bytes of the raw input.
+// The quick way, for a buffer with room to spare: one walk from the bytes of the stripped text to the bytes of the raw input.
 
 // Whether the bytes `a` and `b` stand at `at`.
 fn is_pair(s: &[u8], at: usize, a: u8, b: u8) -> bool
@@ -472,7 +438,18 @@ fn write_candidate(s: &[u8], tone: Tone, khin: Khin, position: u64, out: &mut [u
     }
 }
 
-// The candidate at the position of a text that is not empty.
+// The candidate at the position of a stripped text, from its bytes.
+fn candidate_bytes(stripped: &[u8], tone: Tone, position: u64, out: &mut [u8]) -> Recorded
+    requires { ⌜ (isTone tone ≡ true) × (length (now stripped) + 2 ≤ length (now out)) ⌝ }
+    ensures { λ r. ⌜ ((u : List ℕ) → now (stripped .entry) ≡ encode u
+        → recordReply r (now (out .exit)) ≡ candidateIn (candidatesOf tone (khinIn u) (withoutKhin u)) position (now (out .entry))) ⌝ }
+{
+    let khin = khin::khin_of(stripped);
+    let rest = khin::strip_khin(stripped);
+    write_candidate(rest, tone, khin, position, out)
+}
+
+// The candidate at the position of a text that is not empty. That there is room is known before the text is stripped.
 fn quick_in(text: &[u8], stripped: &mut [u8], position: u64, out: &mut [u8]) -> Recorded
     requires { ⌜ (0 < length (now text)) × (5 * length (now text) ≤ 2 * length (now stripped)) × (3 * length (now text) < length (now out)) ⌝ }
     ensures { λ r. ⌜ recordReply r (now (out .exit)) ≡ candidateCall unicode16 (now (text .entry)) position (now (out .entry)) ⌝ }
@@ -483,9 +460,7 @@ fn quick_in(text: &[u8], stripped: &mut [u8], position: u64, out: &mut [u8]) -> 
             let len = result.len;
             let n = len.0;
             let tone = result.tone;
-            let khin = khin::khin_of(&stripped[0..n]);
-            let rest = khin::strip_khin(&stripped[0..n]);
-            write_candidate(rest, tone, khin, position, out)
+            candidate_bytes(&stripped[0..n], tone, position, out)
         }
     }
 }
@@ -499,8 +474,54 @@ fn candidate_quick(text: &[u8], position: u64, out: &mut [u8]) -> Recorded
     quick_in(text, &mut stripped, position, out)
 }
 
-// The plain way, for any text.
-fn candidate_plain(text: &[u8], position: u64, out: &mut [u8]) -> Recorded
+// The candidate at the position of a stripped text: by the quick way where its raw input has room in any case, else by the plain one.
+fn candidate_stripped(stripped: &[u8], tone: Tone, position: u64, out: &mut [u8]) -> Recorded
+    requires { ⌜ (isTone tone ≡ true) × (length (now stripped) ≤ 640) ⌝ }
+    ensures { λ r. ⌜ ((u : List ℕ) → members unicode16 u ≡ true → now (stripped .entry) ≡ encode u
+        → recordReply r (now (out .exit)) ≡ candidateIn (candidatesOf tone (khinIn u) (withoutKhin u)) position (now (out .entry))) ⌝ }
+{
+    if stripped.len() + 2 <= out.len() {
+        return candidate_bytes(stripped, tone, position, out);
+    }
+    candidate_points(stripped, tone, position, out)
+}
+
+// The candidate at the position of a text that is not empty.
+fn candidate_in(text: &[u8], stripped: &mut [u8], position: u64, out: &mut [u8]) -> Recorded
+    requires { ⌜ (0 < length (now text)) × (5 * length (now text) ≤ 2 * length (now stripped)) × (length (now stripped) ≤ 640) ⌝ }
+    ensures { λ r. ⌜ recordReply r (now (out .exit)) ≡ candidateCall unicode16 (now (text .entry)) position (now (out .entry)) ⌝ }
+{
+    match strip::strip_tone_diacritic(text, stripped) {
+        Strip::Refused(why) => Recorded::Refused(why),
+        Strip::Done(result) => {
+            let len = result.len;
+            let n = len.0;
+            let tone = result.tone;
+            candidate_stripped(&stripped[0..n], tone, position, out)
+        }
+    }
+}
+
+// A text of at most 16 bytes: clearing a small buffer is quicker.
+fn candidate_short(text: &[u8], position: u64, out: &mut [u8]) -> Recorded
+    requires { ⌜ (0 < length (now text)) × (length (now text) ≤ 16) ⌝ }
+    ensures { λ r. ⌜ recordReply r (now (out .exit)) ≡ candidateCall unicode16 (now (text .entry)) position (now (out .entry)) ⌝ }
+{
+    let mut stripped = [0u8; 40];
+    candidate_in(text, &mut stripped, position, out)
+}
+
+// A text of at most 256 bytes.
+fn candidate_long(text: &[u8], position: u64, out: &mut [u8]) -> Recorded
+    requires { ⌜ (0 < length (now text)) × (length (now text) ≤ 256) ⌝ }
+    ensures { λ r. ⌜ recordReply r (now (out .exit)) ≡ candidateCall unicode16 (now (text .entry)) position (now (out .entry)) ⌝ }
+{
+    let mut stripped = [0u8; 640];
+    candidate_in(text, &mut stripped, position, out)
+}
+
+// Any text, in a buffer of the size that it needs.
+fn candidate_any(text: &[u8], position: u64, out: &mut [u8]) -> Recorded
     ensures { λ r. ⌜ recordReply r (now (out .exit)) ≡ candidateCall unicode16 (now (text .entry)) position (now (out .entry)) ⌝ }
 {
     if text.len() == 0 {
@@ -515,7 +536,7 @@ fn candidate_plain(text: &[u8], position: u64, out: &mut [u8]) -> Recorded
     Recorded::Refused(Refusal::TooLong)
 }
 
-// An answer of the plain way, taken apart and made again, so that the quick way's answer need not go through memory to meet it.
+// An answer of a slower way, taken apart and made again, so that the quickest way's answer need not go through memory to meet it.
 pub(crate) fn again(answer: Recorded) -> Recorded
     ensures { λ r. ⌜ r ≡ answer ⌝ }
 {
@@ -525,7 +546,7 @@ pub(crate) fn again(answer: Recorded) -> Recorded
     }
 }
 
-// Whether the quick way may go: the raw input of a text has at most five bytes for each two of it, and two keys.
+// Whether a text is short and has room in any case: its raw input has at most five bytes for each two of it, and two keys.
 fn is_quick(len: usize, room: usize) -> bool
     ensures { λ r. ⌜ (r ≡ true → (0 < len) × (len ≤ 16) × (3 * len < room)) ⌝ }
 {
@@ -545,6 +566,6 @@ pub fn from_composed(text: &[u8], position: u64, out: &mut [u8]) -> Recorded
     if is_quick(text.len(), out.len()) {
         candidate_quick(text, position, out)
     } else {
-        again(candidate_plain(text, position, out))
+        again(candidate_any(text, position, out))
     }
 }

@@ -1,5 +1,6 @@
 use mathlib.Core.Path.{_≡_, sym, ap, _∙_}
 use Rattle.ji.specs.Unicode.{unicode16}
+use Rattle.ji.specs.Tone.{isTone}
 use Rattle.ji.specs.Lomaji.Strip.{strip, stripReply}
 use Rattle.ji.specs.Lomaji.Khin.{withoutKhin, khinIn}
 use Rattle.ji.specs.declared.tone.Tone.{Tone}
@@ -11,7 +12,7 @@ use Rattle.ji.proofs.Readings.{front}
 use Rattle.ji.proofs.lomaji.strip.Answers.{stripped-inside, Stripping, strip-done, strip-not}
 use Rattle.ji.proofs.unicode.Checked.{text-passed}
 use Rattle.khiin_records.specs.Syllable.{candidatesOf, candidateIn}
-use Rattle.khiin_records.proofs.Candidates.{candidate-refused, candidate-good, some-points}
+use Rattle.khiin_records.proofs.Candidates.{candidate-refused, candidate-good, some-points, tone-some}
 use borrow.Author.Needs.{needs}
 use native.Mathlib.Omega.{arith}
 use Rattle.khiin_records.proofs.from_composed.candidate_in.Statement.{statement}
@@ -48,8 +49,9 @@ part-candidate-stripped-end c = let w = done (c .before .before .before .before 
 candidate-stripped-requires : tie.Need-candidate-stripped-requires
 candidate-stripped-requires c κs =
     let d = c .before .before .before .before .before .before .before .before .before in
-    let w = done d (c .before .before .before .before .before .result .given .0 .0) (c .before .before .before .before .before .result .given .1) .written in
-    rw (front w, w .size) (omega (arith, w .fits, begin d .pre .2))
+    let h = done d (c .before .before .before .before .before .result .given .0 .0) (c .before .before .before .before .before .result .given .1) in
+    let w = h .written in
+    (ap isTone (h .tone) ∙ tone-some unicode16 (h .points), rw (front w, w .size) (omega (arith, w .fits, begin d .pre .2)))
 
 same-length : tie.Need-same-length
 same-length c = search needs

@@ -11,8 +11,8 @@ is-quick-requires c κs = search needs
 candidate-quick-requires : tie.Need-candidate-quick-requires
 candidate-quick-requires c κs = c .before .before .is-quick .ensures (c .before .if1 .taken)
 
-candidate-plain-requires : tie.Need-candidate-plain-requires
-candidate-plain-requires c κs = search needs
+candidate-any-requires : tie.Need-candidate-any-requires
+candidate-any-requires c κs = search needs
 
 again-requires : tie.Need-again-requires
 again-requires c κs = search needs
@@ -27,7 +27,7 @@ same-length-2 : tie.Need-same-length-2
 same-length-2 c = search needs
 
 returns-2 : tie.Need-returns-2
-returns-2 c = ap (λ (x : Recorded). recordReply x (c .before .before .before .candidate-plain .last .1 .1 .0)) (c .again .ensures) ∙ c .before .before .before .candidate-plain .ensures
+returns-2 c = ap (λ (x : Recorded). recordReply x (c .before .before .before .candidate-any .last .1 .1 .0)) (c .again .ensures) ∙ c .before .before .before .candidate-any .ensures
 
 pub from-composed-spec : {M : Type 1} → statement M
 from-composed-spec =
@@ -35,7 +35,7 @@ from-composed-spec =
     (tie.spec
     is-quick-requires
     candidate-quick-requires
-    candidate-plain-requires
+    candidate-any-requires
     again-requires
     same-length
     returns

@@ -10,8 +10,8 @@ use Rattle.khiin_records.specs.Syllable.{default, fromComposed, candidat
 use Rattle.khiin_records.proofs.Candidates.{empty-good}
 use borrow.Author.Needs.{needs}
 use native.Mathlib.Omega.{arith}
-use Rattle.khiin_records.proofs.from_composed.candidate_plain.Statement.{statement}
-use Rattle.khiin_records.proofs.from_composed.candidate_plain.Tie as tie
+use Rattle.khiin_records.proofs.from_composed.candidate_any.Statement.{statement}
+use Rattle.khiin_records.proofs.from_composed.candidate_any.Tie as tie
 
 none-given : (text : List ℕ) (position : ℕ) (buffer : List ℕ) → length text ≡ 0 → candidateIn (default ∷ []) position buffer ≡ candidateCall unicode16 text position buffer
 unfolding candidateCall fromComposed
@@ -53,8 +53,8 @@ returns-4 c =
     let a = c .before .before .before .before .before .args in
     too-long (a .text .now) (a .position) (a .out .now) (omega (arith, c .if3 .left))
 
-pub candidate-plain-spec : {M : Type 1} → statement M
-candidate-plain-spec =
+pub candidate-any-spec : {M : Type 1} → statement M
+candidate-any-spec =
     tie.close
     (tie.spec
     default-at-requires
