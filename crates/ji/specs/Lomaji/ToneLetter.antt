@@ -74,6 +74,7 @@ abbrev pub placeOf : Place → Option ℕ
 placeOf (At n) = some (n .0)
 placeOf Nowhere = none
 
+-- the same, of a place in bytes
 abbrev pub bytePlaceOf : BytePlace → Option ℕ
 bytePlaceOf (BytePlace.At n) = some (n .0)
 bytePlaceOf BytePlace.Nowhere = none

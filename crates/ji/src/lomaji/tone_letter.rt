@@ -193,8 +193,9 @@ pub fn tone_position(s: &[u16]) -> Place
     place
 }
 
-// The same of bytes, each taken for a code point, as those of an ASCII text are. A text need not be read into code points for this.
+// The same search in bytes, each taken for a code point, as those of an ASCII text are. Such a text need not be read into code points for it.
 
+// The byte at `i` with its case ignored, and 0 past the end.
 fn ascii_letter_at(s: &[u8], i: usize) -> u16
     ensures { λ r. ⌜ r ≡ lower (getD (now (s .entry)) i 0) ⌝ }
 {
@@ -204,6 +205,7 @@ fn ascii_letter_at(s: &[u8], i: usize) -> u16
     lowered(s[i] as u16)
 }
 
+// Whether at `at` stands what follows the o of the first pattern.
 fn ascii_follows_o(s: &[u8], at: usize) -> bool
     requires { ⌜ at ≤ length (now s) ⌝ }
     ensures { λ r. ⌜ r ≡ matches ("ae" ∷ "ptkhmni" ∷ []) (drop at (now (s .entry))) ⌝ }
@@ -214,6 +216,7 @@ fn ascii_follows_o(s: &[u8], at: usize) -> bool
     false
 }
 
+// Whether pattern `k`, whose first letter is `first`, stands at `at`.
 fn ascii_stands_at(s: &[u8], at: usize, k: usize, first: u16) -> bool
     requires { ⌜ (k < 9) × (at < length (now s)) × (first ≡ point (getD (getD patterns k ([], 0) .0) 0 "")) × (0x61 ≤ first) × (first ≤ 0x7A) ⌝ }
     ensures { λ r. ⌜ r ≡ matches (getD patterns k ([], 0) .0) (drop at (now (s .entry))) ⌝ }
@@ -230,6 +233,7 @@ fn ascii_stands_at(s: &[u8], at: usize, k: usize, first: u16) -> bool
     false
 }
 
+// The first pattern to look for.
 fn ascii_first_tried(s: &[u8]) -> usize
     ensures { λ r. ⌜ (r ≤ 9) × (toneLetter (now (s .entry)) ≡ searched (drop r patterns) (now (s .entry))) ⌝ }
 {
@@ -249,6 +253,7 @@ pub enum BytePlace {
     Nowhere,
 }
 
+// The place of the tone letter of an ASCII text.
 pub fn ascii_tone_position(s: &[u8]) -> BytePlace
     ensures { λ r. ⌜ bytePlaceOf r ≡ toneLetter (now (s .entry)) ⌝ }
 {
