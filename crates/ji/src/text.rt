@@ -1,4 +1,4 @@
-// Texts of code points: whether a text begins with a pattern, and replace-all.
+// Texts of code points: letters in lower case, whether a text begins with a pattern, and replace-all.
 use crate::unicode::CharLen;
 ghost use mathlib.Core.Path.{_≡_};
 ghost use mathlib.Core.List.{[], _∷_};
@@ -6,9 +6,35 @@ ghost use Prim.Native.Nat.{_+_, _≤_, _<_};
 ghost use lib.Dec.{leb};
 ghost use lib.ListN.{length, drop};
 ghost use lib.Seq.{paste};
-ghost use Rattle.ji.specs.Text.{begins, replaceAll};
+ghost use Rattle.ji.specs.Text.{lower as lowerOf, begins, replaceAll};
 ghost use Rattle.ji.specs.Written.{Written};
 ghost use Rattle.ji.specs.Replacing.{Replacing};
+
+// An ASCII letter in lower case, and any other code point as it is.
+pub fn lower(x: u16) -> u16
+    ensures { λ r. ⌜ r ≡ lowerOf x ⌝ }
+{
+    if x < 0x41 {
+        return x;
+    }
+    if 0x5A < x {
+        return x;
+    }
+    x + 32
+}
+
+// The same of a byte.
+pub fn lower_byte(x: u8) -> u8
+    ensures { λ r. ⌜ r ≡ lowerOf x ⌝ }
+{
+    if x < 0x41 {
+        return x;
+    }
+    if 0x5A < x {
+        return x;
+    }
+    x + 32
+}
 
 // What replacing answers: how many code points were written, or why none was.
 pub enum Replaced {

@@ -1,6 +1,5 @@
 // The telex step: `convert_to_telex`, its text only.
 use crate::syllable::compose::compose_points;
-use crate::syllable::letters::lower;
 use crate::syllable::marking::answer;
 use crate::syllable::plain::compose_plain;
 use ji::lomaji::khin::Khin;
@@ -10,6 +9,7 @@ use ji::lomaji::tone_letter::holds_letter;
 use ji::reply;
 use ji::reply::Refusal;
 use ji::reply::TextAnswer;
+use ji::text::lower;
 use ji::tone;
 use ji::tone::Tone;
 use ji::unicode;

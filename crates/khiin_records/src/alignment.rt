@@ -10,6 +10,7 @@ use ji::lomaji::khin::Khin;
 use ji::lomaji::strip;
 use ji::lomaji::strip::Strip;
 use ji::reply::Refusal;
+use ji::text::lower_byte;
 use ji::tone;
 use ji::tone::Tone;
 use ji::unicode;
@@ -30,19 +31,6 @@ ghost use Rattle.khiin_records.specs.RawBytes.{bodyOf};
 ghost use Rattle.khiin_records.specs.Alignment.{sharedPrefix, nearestOf, alignedWith, alignOf, alignCall};
 ghost use Rattle.khiin_records.specs.Prefixes.{NearestPrefix};
 
-// An ASCII letter in lower case.
-fn lower(x: u8) -> u8
-    ensures { λ r. ⌜ r ≡ lowerOf x ⌝ }
-{
-    if x < 65 {
-        return x;
-    }
-    if 90 < x {
-        return x;
-    }
-    x + 32
-}
-
 // Whether two bytes are the same, ASCII case ignored. Most that are compared are the very same.
 fn same_key(a: u8, b: u8) -> bool
     ensures { λ r. ⌜ r ≡ eqb (lowerOf a) (lowerOf b) ⌝ }
@@ -50,7 +38,7 @@ fn same_key(a: u8, b: u8) -> bool
     if a == b {
         return true;
     }
-    lower(a) == lower(b)
+    lower_byte(a) == lower_byte(b)
 }
 
 // How many keys the keys and a raw input share at their beginning, ASCII case ignored.

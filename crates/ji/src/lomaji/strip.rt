@@ -5,6 +5,7 @@ use crate::lomaji::single;
 use crate::nfd;
 use crate::reply;
 use crate::reply::Refusal;
+use crate::text::lower_byte;
 use crate::tone::Tone;
 use crate::tone::is_tone;
 use crate::unicode;
@@ -13,11 +14,9 @@ use crate::unicode::CharLen;
 use crate::unicode::Decoded;
 use crate::utf8;
 ghost use mathlib.Core.Path.{_≡_};
-ghost use mathlib.Core.List.{_++_};
-ghost use Prim.Native.Nat.{ℕ, _+_, _*_, _≤_};
-ghost use lib.ListN.{length, drop};
+ghost use Prim.Native.Nat.{_+_, _*_, _≤_};
+ghost use lib.ListN.{length};
 ghost use Rattle.ucd.specs.Unicode16.{unicode16};
-ghost use Rattle.ji.specs.Text.{lower as lowerOf};
 ghost use Rattle.ji.specs.Written.{Written};
 ghost use Rattle.ji.specs.Utf8.{encode};
 ghost use Rattle.ji.specs.Nfd.{order};
@@ -84,19 +83,6 @@ pub(crate) fn drop_marks(s: &mut [u16]) -> Dropped
     }
 }
 
-// An ASCII letter in lower case.
-fn lower(x: u8) -> u8
-    ensures { λ r. ⌜ r ≡ lowerOf x ⌝ }
-{
-    if x < 65 {
-        return x;
-    }
-    if 90 < x {
-        return x;
-    }
-    x + 32
-}
-
 // Whether the last bytes of `s`, in lower case, are `ending`.
 fn ends_in(ending: &[u8], s: &[u8]) -> bool
     ensures { λ r. ⌜ r ≡ endsIn (now (ending .entry)) (now (s .entry)) ⌝ }
@@ -107,7 +93,7 @@ fn ends_in(ending: &[u8], s: &[u8]) -> bool
     let at = s.len() - ending.len();
     let mut i = 0;
     while i < ending.len() {
-        if lower(s[at + i]) != ending[i] {
+        if lower_byte(s[at + i]) != ending[i] {
             return false;
         }
         i += 1;
@@ -122,7 +108,7 @@ fn ends_in_any(s: &[u8]) -> bool
     if s.len() == 0 {
         return false;
     }
-    match lower(s[s.len() - 1]) {
+    match lower_byte(s[s.len() - 1]) {
         b'h' => ends_in(b"h", s),
         b'p' => ends_in(b"p", s),
         b't' => ends_in(b"t", s),

@@ -1,6 +1,7 @@
 // The tone letter.
 use crate::nfd;
 use crate::reply::Refusal;
+use crate::text;
 use crate::unicode;
 use crate::unicode::ByteLen;
 use crate::unicode::CharLen;
@@ -49,19 +50,6 @@ const U: u16 = b'u' as u16;
 // The patterns go by their numbers, in the order in which they are looked for: 0 is o, a or e, and a final; then o, a, e, u, i, ng, n and m.
 const PATTERNS: usize = 9;
 
-// An ASCII letter in lower case.
-fn lowered(x: u16) -> u16
-    ensures { λ r. ⌜ r ≡ lower x ⌝ }
-{
-    if x < b'A' as u16 {
-        return x;
-    }
-    if (b'Z' as u16) < x {
-        return x;
-    }
-    x + 32
-}
-
 // The code point at `i` with its case ignored, and 0 past the end, which no pattern has.
 fn letter_at(s: &[u16], i: usize) -> u16
     ensures { λ r. ⌜ r ≡ lower (getD (now (s .entry)) i 0) ⌝ }
@@ -69,7 +57,7 @@ fn letter_at(s: &[u16], i: usize) -> u16
     if s.len() <= i {
         return 0;
     }
-    lowered(s[i])
+    text::lower(s[i])
 }
 
 // The second letter of the first pattern, which is the tone letter.
@@ -202,7 +190,7 @@ fn ascii_letter_at(s: &[u8], i: usize) -> u16
     if s.len() <= i {
         return 0;
     }
-    lowered(s[i] as u16)
+    text::lower(s[i] as u16)
 }
 
 // Whether at `at` stands what follows the o of the first pattern.

@@ -2,7 +2,6 @@
 // compose's encoding. Most bodies have one pair of vowels at most, and a sign at their end only: for these each rule is one look.
 use crate::syllable::letters::is_first;
 use crate::syllable::letters::is_second;
-use crate::syllable::letters::lower;
 use crate::syllable::marking::answer;
 use crate::syllable::marking::insert_mark;
 use crate::syllable::marking::place_spelled;
@@ -10,6 +9,7 @@ use crate::syllable::plain::compose_plain;
 use ji::lomaji::khin::Khin;
 use ji::reply::Refusal;
 use ji::reply::TextAnswer;
+use ji::text::lower;
 use ji::text::replace_pair;
 use ji::tone::Tone;
 use ji::unicode;

@@ -1,20 +1,7 @@
-// Letters of a body, by their code points.
+// The vowels of a body that a rule replaces, by their code points.
 ghost use mathlib.Core.Path.{_≡_};
 ghost use Rattle.ji.specs.Unicode.{listed};
-ghost use Rattle.ji.specs.Text.{points as pointsOf, lower as lowerOf};
-
-// An ASCII letter in lower case.
-pub(crate) fn lower(x: u16) -> u16
-    ensures { λ r. ⌜ r ≡ lowerOf x ⌝ }
-{
-    if x < 0x41 {
-        return x;
-    }
-    if 0x5A < x {
-        return x;
-    }
-    x + 32
-}
+ghost use Rattle.ji.specs.Text.{points as pointsOf};
 
 // The first letter of a pair of vowels that is replaced: o or e.
 pub(crate) fn is_first(c: u16) -> bool

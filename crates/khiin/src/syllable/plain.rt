@@ -2,7 +2,6 @@
 // letter and its mark among them. A function here returns 0, and writes nothing, where this way does not go.
 use crate::syllable::letters::is_first;
 use crate::syllable::letters::is_second;
-use crate::syllable::letters::lower;
 use crate::syllable::marking::Mark;
 use crate::syllable::marking::joined;
 use crate::syllable::marking::mark_of;
@@ -11,6 +10,7 @@ use crate::syllable::marking::place_bytes;
 use ji::lomaji::khin::Khin;
 use ji::lomaji::tone_letter::BytePlace;
 use ji::lomaji::tone_letter::ascii_tone_position;
+use ji::text::lower;
 use ji::tone::Tone;
 ghost use mathlib.Core.Path.{_≡_};
 ghost use mathlib.Core.Bool.{true, false, _&&_};

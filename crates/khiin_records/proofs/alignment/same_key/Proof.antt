@@ -9,14 +9,14 @@ use Rattle.khiin_records.proofs.alignment.same_key.Tie as tie
 returns : tie.Need-returns
 returns c = sym (eq-eqb _ _ (ap lower (c .if1 .taken)))
 
-lower-requires : tie.Need-lower-requires
-lower-requires c κs = search needs
+lower-byte-requires : tie.Need-lower-byte-requires
+lower-byte-requires c κs = search needs
 
-lower-requires-2 : tie.Need-lower-requires-2
-lower-requires-2 c κs = search needs
+lower-byte-requires-2 : tie.Need-lower-byte-requires-2
+lower-byte-requires-2 c κs = search needs
 
 returns-2 : tie.Need-returns-2
-returns-2 c = ap₂ eqb (c .before .lower .ensures) (c .lower2 .ensures)
+returns-2 c = ap₂ eqb (c .before .lower-byte .ensures) (c .lower-byte2 .ensures)
 
 pub same-key-spec : {M : Type 1} → statement M
-same-key-spec = tie.close (tie.spec returns lower-requires lower-requires-2 returns-2)
+same-key-spec = tie.close (tie.spec returns lower-byte-requires lower-byte-requires-2 returns-2)

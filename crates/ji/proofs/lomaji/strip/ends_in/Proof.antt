@@ -23,14 +23,14 @@ sub-at c = omega arith
 loop-holds : tie.Need-loop-holds Inv-loop μ-loop
 loop-holds c = let a = c .before .before .before .args in ends-start (a .ending .now) (a .s .now) _ refl
 
-add-lower : tie.Need-add-lower Inv-loop μ-loop
-add-lower c = omega arith
+add-lower-byte : tie.Need-add-lower-byte Inv-loop μ-loop
+add-lower-byte c = omega arith
 
-shared-slice-read-lower : tie.Need-shared-slice-read-lower Inv-loop μ-loop
-shared-slice-read-lower c = omega arith
+shared-slice-read-lower-byte : tie.Need-shared-slice-read-lower-byte Inv-loop μ-loop
+shared-slice-read-lower-byte c = omega arith
 
-lower-requires : tie.Need-lower-requires Inv-loop μ-loop
-lower-requires c κs = search needs
+lower-byte-requires : tie.Need-lower-byte-requires Inv-loop μ-loop
+lower-byte-requires c κs = search needs
 
 shared-slice-read-if2 : tie.Need-shared-slice-read-if2 Inv-loop μ-loop
 shared-slice-read-if2 c = omega arith
@@ -39,7 +39,7 @@ returns-2 : tie.Need-returns-2 Inv-loop μ-loop
 returns-2 c =
     let l = c .before .before .before .before .before in
     let a = l .before .before .before .before .args in
-    let e = c .before .before .lower .ensures in
+    let e = c .before .before .lower-byte .ensures in
     let h : l .loop .i < length (a .ending .now) = omega arith in
     let k : length (a .s .now) - length (a .ending .now) + l .loop .i < length (a .s .now) = omega arith in
     sym (l .loop .inv ∙ ends-differ (a .ending .now) (a .s .now) _ (l .loop .i) h k (λ z. c .if2 .taken (e ∙ z)))
@@ -54,7 +54,7 @@ loop-again : tie.Need-loop-again Inv-loop μ-loop
 loop-again c =
     let l = c .before .before .before .before .before in
     let a = l .before .before .before .before .args in
-    let e = c .before .before .lower .ensures in
+    let e = c .before .before .lower-byte .ensures in
     let h : l .loop .i < length (a .ending .now) = omega arith in
     let k : length (a .s .now) - length (a .ending .now) + l .loop .i < length (a .s .now) = omega arith in
     l .loop .inv ∙ ends-agree (a .ending .now) (a .s .now) _ (l .loop .i) h k (sym e ∙ c .if2 .left)
@@ -74,9 +74,9 @@ ends-in-spec =
     returns
     sub-at
     loop-holds
-    add-lower
-    shared-slice-read-lower
-    lower-requires
+    add-lower-byte
+    shared-slice-read-lower-byte
+    lower-byte-requires
     shared-slice-read-if2
     returns-2
     add-i

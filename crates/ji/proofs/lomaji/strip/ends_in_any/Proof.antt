@@ -18,14 +18,14 @@ returns c =
     let empty : c .before .before .args .s .now ≡ [] = no-letters _ (c .if1 .taken) in
     stop-empty ∙ sym (ap (endsInAny stopEndings) empty)
 
-sub-lower : tie.Need-sub-lower
-sub-lower c = search needs
+sub-lower-byte : tie.Need-sub-lower-byte
+sub-lower-byte c = search needs
 
-shared-slice-read-lower : tie.Need-shared-slice-read-lower
-shared-slice-read-lower c = search needs
+shared-slice-read-lower-byte : tie.Need-shared-slice-read-lower-byte
+shared-slice-read-lower-byte c = search needs
 
-lower-requires : tie.Need-lower-requires
-lower-requires c κs = search needs
+lower-byte-requires : tie.Need-lower-byte-requires
+lower-byte-requires c κs = search needs
 
 slice-aggregate-ends-in : tie.Need-slice-aggregate-ends-in
 slice-aggregate-ends-in c = search needs
@@ -72,42 +72,42 @@ ends-in-requires-7 c κs = search needs
 returns-2 : tie.Need-returns-2
 returns-2 c =
     let l = c .before .before .before in
-    c .ends-in .ensures ∙ stop-one 0x68 (0x68 ∷ []) _ refl (sym (c .before .before .match .keys1) ∙ l .lower .ensures)
+    c .ends-in .ensures ∙ stop-one 0x68 (0x68 ∷ []) _ refl (sym (c .before .before .match .keys1) ∙ l .lower-byte .ensures)
 
 returns-3 : tie.Need-returns-3
 returns-3 c =
     let l = c .before .before .before in
-    c .ends-in2 .ensures ∙ stop-one 0x70 (0x70 ∷ []) _ refl (sym (c .before .before .match .keys2) ∙ l .lower .ensures)
+    c .ends-in2 .ensures ∙ stop-one 0x70 (0x70 ∷ []) _ refl (sym (c .before .before .match .keys2) ∙ l .lower-byte .ensures)
 
 returns-4 : tie.Need-returns-4
 returns-4 c =
     let l = c .before .before .before in
-    c .ends-in3 .ensures ∙ stop-one 0x74 (0x74 ∷ []) _ refl (sym (c .before .before .match .keys3) ∙ l .lower .ensures)
+    c .ends-in3 .ensures ∙ stop-one 0x74 (0x74 ∷ []) _ refl (sym (c .before .before .match .keys3) ∙ l .lower-byte .ensures)
 
 returns-5 : tie.Need-returns-5
 returns-5 c =
     let l = c .before .before .before in
-    c .ends-in4 .ensures ∙ stop-one 0x6B (0x6B ∷ []) _ refl (sym (c .before .before .match .keys4) ∙ l .lower .ensures)
+    c .ends-in4 .ensures ∙ stop-one 0x6B (0x6B ∷ []) _ refl (sym (c .before .before .match .keys4) ∙ l .lower-byte .ensures)
 
 returns-6 : tie.Need-returns-6
 returns-6 c =
     let l = c .before .before .before in
-    c .ends-in5 .ensures ∙ stop-one 0x6E (0x68 ∷ 0x6E ∷ 0x6E ∷ []) _ refl (sym (c .before .before .match .keys5) ∙ l .lower .ensures)
+    c .ends-in5 .ensures ∙ stop-one 0x6E (0x68 ∷ 0x6E ∷ 0x6E ∷ []) _ refl (sym (c .before .before .match .keys5) ∙ l .lower-byte .ensures)
 
 returns-7 : tie.Need-returns-7
 returns-7 c =
     let l = c .before .before .before in
-    c .ends-in6 .ensures ∙ stop-one 0xBF (0x68 ∷ 0xE2 ∷ 0x81 ∷ 0xBF ∷ []) _ refl (sym (c .before .before .match .keys6) ∙ l .lower .ensures)
+    c .ends-in6 .ensures ∙ stop-one 0xBF (0x68 ∷ 0xE2 ∷ 0x81 ∷ 0xBF ∷ []) _ refl (sym (c .before .before .match .keys6) ∙ l .lower-byte .ensures)
 
 returns-8 : tie.Need-returns-8
 returns-8 c =
     let l = c .before .before .before in
-    c .ends-in7 .ensures ∙ stop-one 0xBA (0x68 ∷ 0xE1 ∷ 0xB4 ∷ 0xBA ∷ []) _ refl (sym (c .before .before .match .keys7) ∙ l .lower .ensures)
+    c .ends-in7 .ensures ∙ stop-one 0xBA (0x68 ∷ 0xE1 ∷ 0xB4 ∷ 0xBA ∷ []) _ refl (sym (c .before .before .match .keys7) ∙ l .lower-byte .ensures)
 
 returns-9 : tie.Need-returns-9
 returns-9 c =
     let r = c .match .rest in
-    stop-none _ _ (c .before .lower .ensures)
+    stop-none _ _ (c .before .lower-byte .ensures)
     (r .0 .0 .0 .0 .0 .0 .1, (r .0 .0 .0 .0 .0 .1, (r .0 .0 .0 .0 .1, (r .0 .0 .0 .1, (r .0 .0 .1, (r .0 .1, (r .1, tt)))))))
 
 pub ends-in-any-spec : {M : Type 1} → statement M
@@ -115,9 +115,9 @@ ends-in-any-spec =
     tie.close
     (tie.spec
     returns
-    sub-lower
-    shared-slice-read-lower
-    lower-requires
+    sub-lower-byte
+    shared-slice-read-lower-byte
+    lower-byte-requires
     slice-aggregate-ends-in
     ends-in-requires
     slice-aggregate-ends-in-2

@@ -9,18 +9,18 @@ returns : tie.Need-returns
 unfolding lower
 returns c = ap lower (sym (List·getD-eq-default (c .before .before .args .s .now) 0 (c .if1 .taken)))
 
-mul-lowered : tie.Need-mul-lowered
-mul-lowered c = search needs
+mul-lower : tie.Need-mul-lower
+mul-lower c = search needs
 
-shared-slice-read-lowered : tie.Need-shared-slice-read-lowered
-shared-slice-read-lowered c = search needs
+shared-slice-read-lower : tie.Need-shared-slice-read-lower
+shared-slice-read-lower c = search needs
 
-lowered-requires : tie.Need-lowered-requires
-lowered-requires c κs = search needs
+lower-requires : tie.Need-lower-requires
+lower-requires c κs = search needs
 
 returns-2 : tie.Need-returns-2
 returns-2 c = search needs
 
 pub letter-at-spec : {M : Type 1} → statement M
 letter-at-spec =
-    tie.close (tie.spec returns mul-lowered shared-slice-read-lowered lowered-requires returns-2)
+    tie.close (tie.spec returns mul-lower shared-slice-read-lower lower-requires returns-2)

@@ -1,9 +1,9 @@
 use mathlib.Core.Path.{sym}
 use Rattle.ji.specs.Text.{lower}
 use Rattle.ji.proofs.Bools.{number-yes, number-no, within-yes, within-below, within-above}
 use borrow.Author.Needs.{needs}
-use Rattle.khiin_records.proofs.alignment.lower.Statement.{statement}
-use Rattle.khiin_records.proofs.alignment.lower.Tie as tie
+use Rattle.ji.proofs.text.lower_byte.Statement.{statement}
+use Rattle.ji.proofs.text.lower_byte.Tie as tie
 
 returns : tie.Need-returns
 unfolding lower
@@ -20,5 +20,5 @@ returns-3 : tie.Need-returns-3
 unfolding lower
 returns-3 c = sym (number-yes _ _ _ (within-yes 65 90 (c .before .before .args .x) (c .before .if1 .left) (c .if2 .left)))
 
-pub lower-spec : {M : Type 1} → statement M
-lower-spec = tie.close (tie.spec returns returns-2 add-result returns-3)
+pub lower-byte-spec : {M : Type 1} → statement M
+lower-byte-spec = tie.close (tie.spec returns returns-2 add-result returns-3)

@@ -1,9 +1,9 @@
 use mathlib.Core.Path.{sym}
 use Rattle.ji.specs.Text.{lower}
 use Rattle.ji.proofs.Bools.{number-yes, number-no, within-yes, within-below, within-above}
 use borrow.Author.Needs.{needs}
-use Rattle.khiin.proofs.syllable.letters.lower.Statement.{statement}
-use Rattle.khiin.proofs.syllable.letters.lower.Tie as tie
+use Rattle.ji.proofs.text.lower.Statement.{statement}
+use Rattle.ji.proofs.text.lower.Tie as tie
 
 returns : tie.Need-returns
 unfolding lower
