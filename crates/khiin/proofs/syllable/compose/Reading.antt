@@ -1,19 +1,16 @@
 -- Reading a body: its code points, and that they are no more than its bytes.
-use mathlib.Core.Path.{_≡_, sym, ap, _∙_}
+use mathlib.Core.Path.{_≡_, ap, _∙_}
 use mathlib.Core.Bool.{false}
-use mathlib.Core.List.{List, [], _∷_}
+use mathlib.Core.List.{List}
 use Prim.Native.Nat.{ℕ, _-_, _*_, _/_, _≤_}
-use native.Mathlib.Nat.{sub-zero}
 use native.Mathlib.Omega.{arith}
-use lib.ListN.{length, take}
+use lib.ListN.{length}
 use Rattle.ji.specs.Unicode.{unicode16, spread}
-use Rattle.ji.specs.Utf8.{bytesOf, encode}
 use Rattle.ji.specs.Written.{Written}
 use Rattle.ji.specs.Reading.{PointsReading}
 use Rattle.ji.specs.Reply.{good, checkText}
 use Rattle.ji.specs.declared.unicode.Decoded.{Decoded}
 use Rattle.ji.specs.declared.unicode.Decoded.the-variants.{Points}
-use Rattle.ji.proofs.Writing.{written-take}
 use Rattle.ji.proofs.Replies.{check-within}
 use Rattle.ji.proofs.Readings.{told}
 pub use Rattle.ji.proofs.unicode.Bytes.{fewer}
@@ -29,11 +26,3 @@ unfolding spread
 read s before after h fits e r =
     let v = told unicode16 s before after false e (r .0 fits) in
     (v .0, check-within unicode16 s h ∙ v .1, v .2)
-
--- the bytes of what was read
-pub read-bytes : (bytes s : List ℕ) → checkText unicode16 bytes ≡ good s → bytes ≡ encode s
-read-bytes bytes s e = sym (text-passed bytes s e .written)
-
--- what was read, as a part `[0..n]` has it
-pub part-text : {before after : List ℕ} {n : ℕ} {u : List ℕ} → Written before after n u → take (n - 0) after ≡ u
-part-text {after = after} {n = n} w = ap (λ (k : ℕ). take k after) (sub-zero n) ∙ written-take w

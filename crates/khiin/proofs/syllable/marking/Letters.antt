@@ -8,24 +8,19 @@ use native.Mathlib.Nat.{sub-zero}
 use native.Mathlib.Numerals.{add-one}
 use native.Mathlib.Omega.{arith}
 use lib.ListN.{length, take, drop, getD, set}
-use lib.Seq.{paste, length-take-le, take-at, take-set-lt, set-split, getD-take}
+use lib.Seq.{length-take-le, take-at, take-set-lt, set-split, getD-take}
 use Rattle.ji.specs.Unicode.{unicode16, composite}
-use Rattle.ji.proofs.Writing.{written-none, written-run}
 use Rattle.ji.specs.declared.tone.Tone.{Tone}
 use Rattle.khiin.specs.Syllable.{markOf, encoded}
-use Rattle.khiin.specs.Compose.{Front, markText, inserted, settledFrom, Joined}
+use Rattle.khiin.specs.Compose.{markText, inserted, settledFrom, Joined}
 use Rattle.khiin.specs.declared.syllable.marking.Mark.{Mark}
-use Rattle.khiin.proofs.syllable.compose.Laws.{front-written, inserted-is}
+use Rattle.khiin.proofs.syllable.compose.Laws.{inserted-is}
 use Rattle.khiin.proofs.syllable.marking.Settled.{listed-mark}
 use Rattle.khiin.proofs.syllable.marking.Marked.{marked-one, marked-none}
 
 -- the mark of a tone, as the answer has it
 pub mark-told : (tone : Tone) {m x : Mark} → m ≡ x → markText m ≡ markOf tone → markText x ≡ markOf tone
 mark-told tone e h = ap markText (sym e) ∙ h
-
--- a text that was put to the front of a buffer
-pub front-put : (s before : List ℕ) {after : List ℕ} {n : ℕ} → length s ≤ length before → (n ≡ 0 + length s) × (after ≡ paste before 0 s (length s)) → Front after n s
-front-put s before room e = rw (e .0, e .1) (front-written (written-run (written-none before) s (omega arith)))
 
 -- the first n code points of s, with x behind the first k of them
 abbrev pub withMark : List ℕ → ℕ → ℕ → ℕ → List ℕ

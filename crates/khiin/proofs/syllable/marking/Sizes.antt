@@ -1,6 +1,6 @@
 -- Numbers that stand for the answer of a writer: what the answer says, the number says.
 use mathlib.Core.Path.{_≡_, sym, ap, _∙_}
-use mathlib.Core.Bool.{Bool}
+use mathlib.Core.Bool.{Bool, false}
 use mathlib.Core.List.{List}
 use Prim.Native.Nat.{ℕ, suc, _+_, _≤_, _<_}
 use native.Mathlib.Numerals.{add-one}
@@ -23,13 +23,22 @@ module _ (text before after : List ℕ) (a : TextAnswer) (e : textReply a after 
   room : (b : Bool) → leb (length text) (length before) ≡ b → textReply a after ≡ pickReply b (answered 0 text before) (refused NoRoom before)
   room b y = e ∙ ap (λ (c : Bool). pickReply c (answered 0 text before) (refused NoRoom before)) y
 
-  -- a writer refuses its text for want of room only
-  pub no-room : (why : Refusal) → a ≡ Refused why → textReply (answerOf 0) after ≡ placed 0 text before
-  no-room why k =
-      let told : refused why after ≡ textReply a after = ap (λ (x : TextAnswer). textReply x after) (sym k) in
-      either (leb (length text) (length before))
-      (λ y. let z : refusalNumber why ≡ 0 = ap (λ (r : Reply). r .code) (told ∙ room _ y) in absurd (omega (arith, z, refusal-some why)))
-      (λ n. ap (refused NoRoom) (ap (λ (r : Reply). r .buffer) (told ∙ room _ n)) ∙ sym (ap (λ (c : Bool). pickReply c (answered 0 text before) (refused NoRoom before)) n))
+  -- a writer refuses its text for want of room only, and changes nothing then
+  module _ (why : Refusal) (k : a ≡ Refused why) where
+    told : refused why after ≡ textReply a after
+    told = ap (λ (x : TextAnswer). textReply x after) (sym k)
+
+    short : leb (length text) (length before) ≡ false
+    short =
+        either (leb (length text) (length before))
+        (λ y. let z : refusalNumber why ≡ 0 = ap (λ (r : Reply). r .code) (told ∙ room _ y) in absurd (omega (arith, z, refusal-some why)))
+        (λ n. n)
+
+    pub no-change : after ≡ before
+    no-change = ap (λ (r : Reply). r .buffer) (told ∙ room _ short)
+
+    pub no-room : textReply (answerOf 0) after ≡ placed 0 text before
+    no-room = ap (refused NoRoom) no-change ∙ sym (ap (λ (c : Bool). pickReply c (answered 0 text before) (refused NoRoom before)) short)
 
   module _ (len : ByteLen) (k : a ≡ Done len) where
     pub written : textReply (answerOf (len .0 + 1)) after ≡ placed 0 text before

@@ -1,26 +1,25 @@
 -- ASCII bodies that no rule changes: they are spelled as they stand, and a tone mark changes one letter of them alone.
 use mathlib.Core.Path.{_≡_, refl, sym, ap, ap₂, _∙_, subst}
-use mathlib.Core.Bool.{Bool, true}
+use mathlib.Core.Bool.{true}
 use mathlib.Core.List.{List, [], _∷_, _++_}
 use mathlib.Core.Logic.{inr}
 use Prim.Native.Nat.{ℕ, zero, suc, _+_, _-_, _/_, _≤_, _<_}
 use native.Mathlib.Decide.{decLe}
 use native.Mathlib.Omega.{arith}
 use borrow.Author.Tests.{lt-ltb, le-leb}
-use lib.Dec.{leb}
 use lib.ListN.{length, take, drop, getD, drop-of-length-le}
 use lib.Seq.{getD-take}
 use Rattle.ji.specs.Unicode.{unicode16}
 use Rattle.ji.specs.Text.{allAscii}
 use Rattle.ji.specs.Utf8.{bytesOf, encode}
-use Rattle.ji.specs.Reply.{Reply, refused, refusalNumber, answered, pickReply, placed, textReply}
+use Rattle.ji.specs.Reply.{Reply, placed, textReply}
 use Rattle.ji.specs.Lomaji.ToneLetter.{toneLetter, bytePlaceOf}
 use Rattle.ji.specs.declared.tone.Tone.{Tone}
 use Rattle.ji.specs.declared.lomaji.tone_letter.BytePlace.{BytePlace}
 use Rattle.ji.specs.declared.lomaji.khin.Khin.the-variants.{No}
 use Rattle.ji.specs.declared.reply.Refusal.the-variants.{NoRoom}
 use Rattle.ji.specs.Lomaji.Keys.{respell}
-use Rattle.ji.proofs.Bools.{either, and-yes, or-yes}
+use Rattle.ji.proofs.Bools.{and-yes, or-yes}
 use Rattle.ji.proofs.text.Laws.{drop-next}
 use Rattle.ji.proofs.unicode.Bytes.{bytes-one, bytes-two, bytes-three, bytes-four, encode-cons, encode-append}
 use Rattle.ji.proofs.unicode.Ascii.{ascii-nil, ascii-low, ascii-rest, ascii-at, ascii-take, ascii-drop, ascii-bytes}
@@ -30,6 +29,7 @@ use Rattle.khiin.proofs.syllable.compose.Laws.{nasalised-no, composed-i
 use Rattle.khiin.proofs.syllable.compose.Pairs.{vowels-apart}
 use Rattle.khiin.proofs.syllable.compose.Once.{moved-none-lone, dot-low}
 use Rattle.khiin.proofs.syllable.marking.Settled.{listed-mark, encoded-settled}
+use Rattle.khiin.proofs.syllable.marking.Sizes.{no-change}
 use Rattle.khiin.proofs.syllable.marking.Marked.{marked-one, marked-none}
 
 -- ── a plain body is composed as it stands
@@ -117,19 +117,9 @@ module _ (s : List ℕ) (h : allAscii s ≡ true) where
 pub byte-place-told : (s : List ℕ) {p x : BytePlace} → p ≡ x → bytePlaceOf p ≡ toneLetter s → toneLetter s ≡ bytePlaceOf x
 byte-place-told s e h = sym h ∙ ap bytePlaceOf e
 
--- ── a writer that found no room changed nothing
-pub no-change : (text before after : List ℕ) → textReply (answerOf 0) after ≡ placed 0 text before → after ≡ before
-no-change text before after e =
-    either (leb (length text) (length before))
-    (λ y. absurd (let z : refusalNumber NoRoom ≡ 0 = ap (λ (r : Reply). r .code) (e ∙ ap pick y) in let w : ⊥ = omega (arith, z) in w))
-    (λ n. ap (λ (r : Reply). r .buffer) (e ∙ ap pick n))
-  where
-    pick : Bool → Reply
-    pick b = pickReply b (answered 0 text before) (refused NoRoom before)
-
--- so that its number says all of the quick way
+-- ── a writer that found no room changed nothing, so that its number says all of the quick way
 pub quick : (r : ℕ) (text before after : List ℕ) → textReply (answerOf r) after ≡ placed 0 text before → QuickAs r before after (placed 0 text before)
-quick r text before after e = (λ z. no-change text before after (ap (λ (n : ℕ). textReply (answerOf n) after) (sym z) ∙ e), λ h. e)
+quick r text before after e = (λ z. no-change text before after (answerOf 0) (ap (λ (n : ℕ). textReply (answerOf n) after) (sym z) ∙ e) NoRoom refl, λ h. e)
 
 pub quick-not : (before : List ℕ) (reply : Reply) → QuickAs 0 before before reply
 quick-not before reply = (λ z. refl, λ h. absurd (let w : ⊥ = omega (arith, h) in w))
