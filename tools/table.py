@@ -213,10 +213,10 @@ def source_file(rows, modulus):
     """The constants, and the functions that read them."""
     text = f"""// {NOTE}
 // The table in rows of {ROW} numbers: a constant array is copied where it is read, so it is kept short.
-ghost use mathlib.Core.Path.{{_≡_}};
-ghost use Rattle·ucd·specs.specs.Table.{{decomposition, combiningClass, composite}};
-ghost use Rattle·ucd·specs.specs.Unicode16.{{unicode16}};
-ghost use Rattle·ucd·specs.specs.Answer.{{unpacked, verified}};
+ghost use Rattle.std.specs.Prelude.{{◌≡◌}};
+ghost use Rattle.ucd.specs.Table.{{decomposition, combiningClass, composite}};
+ghost use Rattle.ucd.specs.Unicode16.{{unicode16}};
+ghost use Rattle.ucd.specs.Answer.{{unpacked, verified, displacementOf}};
 """
     text += constants("MAPPINGS", "The mappings of", "u32", rows["mappings"], packed)
     text += constants("CLASSES", "The combining classes of", "u8", rows["classes"], str)
@@ -225,7 +225,7 @@ ghost use Rattle·ucd·specs.specs.Answer.{{unpacked, verified}};
     return text + f"""
 // The mapping of c as one number: the first code point times 65536, plus the second, if there is one; 0 for none.
 pub(crate) fn mapping_number(c: u16) -> u32
-    ensures {{ λ r. ⌜ unpacked c r ≡ decomposition unicode16 c ⌝ }}
+    ensures {{ unpacked c result ≡ decomposition unicode16 c }}
 {{
     let at = (c % {ROW}) as usize;
     match c / {ROW} {{
@@ -235,7 +235,7 @@ pub(crate) fn mapping_number(c: u16) -> u32
 
 // The combining class of c.
 pub(crate) fn class_number(c: u16) -> u8
-    ensures {{ λ r. ⌜ r ≡ combiningClass unicode16 c ⌝ }}
+    ensures {{ result ≡ combiningClass unicode16 c }}
 {{
     let at = (c % {ROW}) as usize;
     match c / {ROW} {{
@@ -245,7 +245,7 @@ pub(crate) fn class_number(c: u16) -> u8
 
 // The one code point that can be the composite of a and b: it is, where its decomposition is a, b.
 pub(crate) fn candidate(a: u16, b: u16) -> u16
-    ensures {{ λ r. ⌜ verified a b r ≡ composite unicode16 a b ⌝ }}
+    ensures {{ verified a b result ≡ composite unicode16 a b }}
 {{
     let mark = (b % {ROW}) as usize;
     let displacement = match b / {ROW} {{
@@ -260,107 +260,40 @@ pub(crate) fn candidate(a: u16, b: u16) -> u16
 """
 
 
-def numbered(name, count):
-    """The names of the needs of one kind, as rattle numbers them."""
-    return [name if at == 0 else f"{name}-{at + 1}" for at in range(count)]
+def answer(goal, body, unfolding):
+    """The answer of one goal."""
+    return f"\npub {goal} : goal.{goal}\nunfolding {unfolding}\n{goal} c = {body}\n"
 
 
-def answer(need, body, unfolding=""):
-    """The proof of one need."""
-    opened = f"unfolding {unfolding}\n" if unfolding else ""
-    space = "\n    " if "\n" in body else " "
-    return f"\n{need} : tie.Need-{need}\n{opened}{need} c ={space}{body}\n"
-
-
-def read_needs(result, kind, count):
-    """The needs of reading each row: the scaled index fits, unless a number is a byte, and lies within the row."""
-    scaled = numbered(f"mul-{result}", count)
-    within = numbered(f"array-read-{result}", count)
-    return within if kind == "u8" else [need for pair in zip(scaled, within) for need in pair]
-
-
-def proof_file(function, about, uses, bounds, helpers, returns):
-    """The proof of a function that is a match: `bounds` are the needs that are plain arithmetic, `returns` the answers of its arms."""
-    name = function.replace("_", "-")
-    answered = numbered("returns", len(returns))
+def lookup_proof(function, about, rows, numbers, arm, rest):
+    """The answers of a function that is a match on the number of a row: one for each arm, and one for the last. `arm` and `rest` are the two laws."""
+    laws = sorted({arm.split()[0], rest.split()[0]})
     text = f"""-- {NOTE}
 -- `ucd::table::{function}` meets its contract: {about} Assumes nothing.
+use Rattle.std.proofs.Common.{{rules}}
+use Rattle.ucd.proofs.RowData.{{{numbers}}}
+use Rattle.ucd.proofs.Rows.{{{", ".join(laws)}}}
+use Rattle.ucd.proofs.table.{function}.Goals as goal
 """
-    text += "".join(f"use {use}\n" for use in uses)
-    text += f"""use Rattle·ucd·proofs.proofs.table.{function}.Statement.{{statement}}
-use Rattle·ucd·proofs.proofs.table.{function}.Tie as tie
-"""
-    text += "".join(answer(need, "omega arith") for need in bounds)
-    text += helpers
-    text += "".join(answer(need, body, unfolding=opened) for need, (body, opened) in zip(answered, returns))
-    spec = "".join(f"\n    {need}" for need in bounds + answered)
-    return text + f"""
-pub {name}-spec : {{M : Type 1}} → statement M
-{name}-spec =
-    tie.close
-    (tie.spec{spec})
-"""
+    for number, _ in rows:
+        text += answer(f"returns-in-{number}", f"{arm} {number} c.in-{number}.is", numbers)
+    return text + answer("returns-in_default", f"{rest} (search rules)", numbers)
 
 
-def lookup_proof(function, law, numbers, kind, rows):
-    """The proof of a lookup by code point."""
-    argument = "(c .before .args .c)"
-    returns = [
-        (f"{law}-arm {argument} {number} (c .match .keys{at + 1})", numbers) for at, (number, _) in enumerate(rows)
-    ] + [(f"{law}-rest {argument} (c .match .rest)", numbers)]
-    return proof_file(
-        function,
-        "each arm reads a row of the quick form, and the last arm none.",
-        [
-            "native.Mathlib.Omega.{arith}",
-            f"Rattle·ucd·proofs.proofs.RowData.{{{numbers}}}",
-            f"Rattle·ucd·proofs.proofs.Rows.{{{law}-arm, {law}-rest}}",
-        ],
-        ["cast-at"] + read_needs("result", kind, len(rows)),
-        "",
-        returns,
-    )
-
-
-def candidate_proof(rows):
-    """The proof of `candidate`, which reads the displacement of a mark and then the candidate."""
-    marks, candidates = rows["displacements"], rows["candidates"]
-    came = "λ w. w .1 ∙ displacement-rest (c .before .before .args .b) (w .0 .rest)"
-    for at in reversed(range(len(marks))):
-        arm = f"λ w. w .1 ∙ displacement-arm (c .before .before .args .b) {marks[at][0]} (w .0 .keys{at + 1})"
-        came = f"⊎-elim ({arm})\n    ({came})"
-    helpers = f"""
--- the first match reads the displacement of b
-displaced : (c : lts.After-row-known reads.Pre reads.Post)
-    → c .before .match .displacement ≡ numberAt displacementNumbers (c .before .before .args .b)
-unfolding displacementNumbers
-displaced c =
-    {came}
-    (c .before .match .came)
-"""
-    start = "c .before .before .before .args"
-    place = f"({start} .a) ({start} .b) (c .before .before .match .displacement) (displaced (c .before))"
-    returns = [
-        (f"candidate-arm {place}\n    {number} (c .match2 .keys{at + 1})", "candidateNumbers") for at, (number, _) in enumerate(candidates)
-    ] + [(f"candidate-rest {place}\n    (c .match2 .rest)", "candidateNumbers")]
-    return proof_file(
-        "candidate",
-        "its matches read the rows of the quick form.",
-        [
-            "mathlib.Core.Path.{_≡_, _∙_}",
-            "mathlib.Core.Logic.{⊎-elim}",
-            "native.Mathlib.Omega.{arith}",
-            "Rattle·ucd·proofs.proofs.RowData.{displacementNumbers, candidateNumbers}",
-            "Rattle·ucd·proofs.proofs.RowLaw.{numberAt}",
-            "Rattle·ucd·proofs.proofs.Rows.{displacement-arm, displacement-rest, candidate-arm, candidate-rest}",
-            "Rattle·ucd·proofs.proofs.table.candidate.Reads as reads",
-            "Rattle·ucd·proofs.proofs.table.candidate.Lts as lts",
-        ],
-        ["cast-mark"] + read_needs("displacement", "u16", len(marks)) + ["cast-place", "add-place"]
-        + read_needs("result", "u16", len(candidates)),
-        helpers,
-        returns,
-    )
+def answers(rows):
+    """The files of answers: the path of each below the crate, and its text."""
+    each = "each arm reads a row of the quick form, and the last arm none."
+    of_mark, of_pair = "c.args.b", "c.args.a c.args.b c.displacement-mark.result c.displacement-mark.ensures"
+    lookups = [
+        ("mapping_number", "mappings", "mappingNumbers", "mapping-arm c.args.c", "mapping-rest c.args.c"),
+        ("class_number", "classes", "classNumbers", "class-arm c.args.c", "class-rest c.args.c"),
+        ("displacement", "displacements", "displacementNumbers", f"displacement-arm {of_mark}", f"displacement-rest {of_mark}"),
+        ("candidate", "candidates", "candidateNumbers", f"candidate-arm {of_pair}", f"candidate-rest {of_pair}"),
+    ]
+    return {
+        f"proofs/table/{function}/Answers.antt": lookup_proof(function, each, rows[kind], numbers, arm, rest)
+        for function, kind, numbers, arm, rest in lookups
+    }
 
 
 def generated(folder):
@@ -377,9 +310,7 @@ def generated(folder):
         "specs/Unicode16.antt": table_file(mappings, classes, exclusions),
         "src/table.rt": source_file(rows, modulus),
         "proofs/RowData.antt": data_file(rows, modulus),
-        "proofs/table/mapping_number/Proof.antt": lookup_proof("mapping_number", "mapping", "mappingNumbers", "u32", rows["mappings"]),
-        "proofs/table/class_number/Proof.antt": lookup_proof("class_number", "class", "classNumbers", "u8", rows["classes"]),
-        "proofs/table/candidate/Proof.antt": candidate_proof(rows),
+        **answers(rows),
     }
 
 

@@ -1,1 +1,3 @@
 // Well-formed syllables and entries of them, as definitions: this crate has no code.
+#![tactic(auto)]
+

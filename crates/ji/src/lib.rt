@@ -1,4 +1,6 @@
 // Texts, normalisation, tones and keys of one syllable.
+#![tactic(auto)]
+
 pub mod lomaji;
 pub mod nfc;
 pub mod nfd;

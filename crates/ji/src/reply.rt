@@ -8,7 +8,7 @@ use crate::unicode::ByteLen;
 use crate::utf8;
 
 // Why a call is refused.
-#[derive(Drop)]
+#[derive(Clone, Copy)]
 pub enum Refusal {
     Argument,
     TooLong,
@@ -35,7 +35,7 @@ pub fn number(why: Refusal) -> u64
 }
 
 // What a call answers that gives one text: the text's length, or why it is refused.
-#[derive(Drop)]
+#[derive(Clone, Copy)]
 pub enum TextAnswer {
     Done(ByteLen),
     Refused(Refusal),

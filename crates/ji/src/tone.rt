@@ -2,7 +2,7 @@
 ghost use Rattle.std.specs.Prelude.{◌≡◌, ◌≤◌};
 ghost use Rattle.ji.specs.Tone.{toneNumber, isTone};
 
-#[derive(Drop)]
+#[derive(Clone, Copy)]
 pub enum Tone {
     None,
     T1,

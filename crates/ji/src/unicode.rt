@@ -17,29 +17,29 @@ use crate::utf8;
 use ucd::Mapping;
 
 // A number of bytes.
-#[derive(Drop)]
+#[derive(Clone, Copy)]
 pub struct ByteLen(pub usize);
 
 // A number of code points.
-#[derive(Drop)]
+#[derive(Clone, Copy)]
 pub struct CharLen(pub usize);
 
 // What reading a text gives: its code points in the buffer, or why it is refused.
-#[derive(Drop)]
+#[derive(Clone, Copy)]
 pub enum Decoded {
     Points(CharLen),
     Refused(Refusal),
 }
 
 // Whether a text is one of the table: it is, or why it is refused.
-#[derive(Drop)]
+#[derive(Clone, Copy)]
 pub enum Verdict {
     Good,
     Refused(Refusal),
 }
 
 // What a code point becomes: itself, or its full decomposition, which has at most three.
-#[derive(Drop)]
+#[derive(Clone, Copy)]
 enum Spread {
     One(u16),
     Two(u16, u16),

@@ -8,7 +8,7 @@ ghost use Rattle.ji.specs.Utf8.{isStart, lastStart, secondLow, secondHigh, ReadO
 use crate::unicode::ByteLen;
 
 // A sequence of bytes: its width, 0 where it is ill formed, and its code point.
-#[derive(Drop)]
+#[derive(Clone, Copy)]
 pub(crate) struct Sequence {
     pub width: usize,
     pub point: u32,

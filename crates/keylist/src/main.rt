@@ -1,4 +1,6 @@
 // Reads one entry from standard input and prints its keyings.
+#![tactic(auto)]
+
 fn main() {
     lister::run();
 }

@@ -1,4 +1,6 @@
 // `keylist` on a text of 1,025 bytes, one more than an entry has.
+#![tactic(auto)]
+
 fn main() {
     lister::run();
 }

@@ -23,14 +23,14 @@ use ji::unicode::Decoded;
 use ji::{reply, tone, unicode};
 
 // How tone keys are chosen.
-#[derive(Drop)]
+#[derive(Clone, Copy)]
 pub enum ToneMode {
     Numeric,
     Telex,
 }
 
 // The tone keys of a setting.
-#[derive(Drop)]
+#[derive(Clone, Copy)]
 pub struct ToneKeys {
     pub t2: u8,
     pub t3: u8,
@@ -43,7 +43,7 @@ pub struct ToneKeys {
 
 // What a key does to a text: it goes behind the stripped text, or takes the place of its last code point, or takes with an e before it the place
 // of the last two; or the text is composed anew.
-#[derive(Drop)]
+#[derive(Clone, Copy)]
 enum Edit {
     Behind,
     Last,
@@ -355,7 +355,7 @@ fn takes_tone(tone: Tone, rest: &[u16]) -> bool
 }
 
 // What a key makes of the body: how many code points it has, and its tone.
-#[derive(Drop)]
+#[derive(Clone, Copy)]
 struct Body {
     len: usize,
     tone: Tone,

@@ -1,3 +1,5 @@
 // Syllables and the telex step.
+#![tactic(auto)]
+
 pub mod converter;
 pub mod syllable;

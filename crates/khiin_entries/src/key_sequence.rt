@@ -15,14 +15,14 @@ use ji::unicode;
 use ji::unicode::{ByteLen, Verdict};
 
 // The length of a keying, and how many the list has.
-#[derive(Drop)]
+#[derive(Clone, Copy)]
 pub struct KeyingResult {
     pub len: ByteLen,
     pub count: u64,
 }
 
 // What the call answers.
-#[derive(Drop)]
+#[derive(Clone, Copy)]
 pub enum Keying {
     Done(KeyingResult),
     Refused(Refusal),
@@ -93,7 +93,7 @@ fn same(a: &[u8], b: &[u8]) -> bool
 }
 
 // The choices of a part: where each stands, how long it is, how many there are, and the place behind them.
-#[derive(Drop)]
+#[derive(Clone, Copy)]
 pub(crate) struct Row {
     pub offsets: [u16; 4],
     pub lengths: [u16; 4],
@@ -243,7 +243,7 @@ pub(crate) fn lay_parts(
 }
 
 // The lowest digit of a position, and what is left of the position.
-#[derive(Drop)]
+#[derive(Clone, Copy)]
 pub(crate) struct Digit {
     pub value: usize,
     pub rest: u64,

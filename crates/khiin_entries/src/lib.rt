@@ -1,3 +1,5 @@
 // Keyings of entries.
+#![tactic(auto)]
+
 pub mod key_sequence;
 pub mod listing;

@@ -16,7 +16,7 @@ use ji::unicode::{ByteLen, Verdict};
 use ji::{reply, unicode};
 
 // How many bytes were written, and the number of the next line.
-#[derive(Drop)]
+#[derive(Clone, Copy)]
 pub struct Listed {
     pub len: ByteLen,
     pub next: u64,
@@ -247,7 +247,7 @@ fn list_refusal(why: Refusal, from: u64, out: &mut [u8]) -> Listed
 }
 
 // What there is of a listing so far: how many bytes were written, the number of the next line to write, and how many lines there are up to here.
-#[derive(Drop)]
+#[derive(Clone, Copy)]
 struct Begun {
     len: ByteLen,
     next: u64,

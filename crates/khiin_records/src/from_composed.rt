@@ -304,7 +304,7 @@ fn is_below(s: &[u8], at: usize) -> bool
 
 // How many bytes the body has, and how many candidates there are. Of two numbers of one width the record would be made by one load of both, which
 // waits for their stores.
-#[derive(Drop)]
+#[derive(Clone, Copy)]
 pub(crate) struct Spelled {
     pub(crate) len: usize,
     pub(crate) count: u8,

@@ -1,4 +1,6 @@
 // Syllable records: those of raw keys, those that a composed syllable may be typed as, and how many of the keys were typed for one.
+#![tactic(auto)]
+
 pub mod alignment;
 pub mod from_composed;
 pub mod from_raw;
@@ -9,7 +11,7 @@ use ji::tone::Tone;
 use ji::unicode::ByteLen;
 
 // A syllable record: the length of its raw input and of the body that this begins with, in bytes, its tone and khin; and of how many it is one.
-#[derive(Drop)]
+#[derive(Clone, Copy)]
 pub struct Record {
     pub len: ByteLen,
     pub count: u64,
@@ -19,7 +21,7 @@ pub struct Record {
 }
 
 // What a call answers that gives a record.
-#[derive(Drop)]
+#[derive(Clone, Copy)]
 pub enum Recorded {
     Done(Record),
     Refused(Refusal),

@@ -1,5 +1,7 @@
 // Reads an entry from standard input and prints its listing: what the program `keylist` does, and others do on inputs of their own. No contract can
 // say what is read and written, so only what is made of the text has one.
+#![tactic(auto)]
+
 ghost use Rattle.std.specs.Prelude.{◌≡◌, ◌+◌, ◌-◌, ◌≤◌, length};
 ghost use Rattle.ji.specs.Unicode.{unicode16};
 ghost use Rattle.khiin_entries.specs.Listing.{listing};

@@ -1,5 +1,7 @@
 // Replays fixed lists, which standard input holds: the Rust's answers to the calls, then the rows of NormalizationTest.txt. Each record of a
 // list is a call and the reply to it. Prints a line for each call: how many records there were, and how many replies differed.
+#![tactic(auto)]
+
 mod calls;
 mod expected;
 mod program;

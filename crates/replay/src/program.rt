@@ -7,7 +7,7 @@ use crate::record::Header;
 use crate::{agrees, record};
 
 // What one record of the list came to: the call and whether it replied as the record says.
-#[derive(Drop)]
+#[derive(Clone, Copy)]
 enum Outcome {
     Same(u8),
     Different(u8),
@@ -17,7 +17,7 @@ enum Outcome {
 }
 
 // By the call's number, how many records there were, and how many of them differed; and 1 where the list did not come to its end.
-#[derive(Drop)]
+#[derive(Clone, Copy)]
 struct Tally {
     records: [u64; 13],
     different: [u64; 13],

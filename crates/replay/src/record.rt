@@ -8,7 +8,7 @@ pub const MOST: usize = 3072;
 // The numbers of a header. `call`, `first`, `second` and `asked` are what to call: the call, its first and second number, and the position that
 // it is asked for. `code`, `length`, `body`, `tone`, `khin`, `position` and `count` are what it is to reply. `input`, `other`, `lent` and
 // `wanted` are how many bytes the first text has, the second text, the lent buffer, and the output that stands in the record.
-#[derive(Drop)]
+#[derive(Clone, Copy)]
 pub struct Header {
     pub call: u8,
     pub first: u8,

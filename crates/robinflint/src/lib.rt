@@ -1,4 +1,6 @@
 // The functions that C and Rust call. Each takes apart the answer of a library function and lays its numbers out for C.
+#![tactic(auto)]
+
 pub mod arguments;
 pub mod reply;
 

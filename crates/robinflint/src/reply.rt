@@ -13,7 +13,7 @@ use khiin_records::Recorded;
 
 // 0 or the refusal's number, and the numbers that a call gives, each 0 where it gives none.
 #[repr(C)]
-#[derive(Drop)]
+#[derive(Clone, Copy)]
 pub struct Reply {
     pub code: u64,
     pub length: u64,

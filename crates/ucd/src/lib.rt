@@ -1,4 +1,6 @@
 // The table: which code points are in it, and of each its decomposition, its combining class and its composites.
+#![tactic(auto)]
+
 ghost use Rattle.std.specs.Prelude.{◌≡◌};
 ghost use Rattle.ucd.specs.Table.{member, decomposition, combiningClass, composite};
 ghost use Rattle.ucd.specs.Unicode16.{unicode16};
@@ -41,7 +43,7 @@ pub fn is_member(c: u32) -> bool
 }
 
 // What a code point decomposes to.
-#[derive(Drop)]
+#[derive(Clone, Copy)]
 pub enum Mapping {
     Itself,
     One(u16),
@@ -79,7 +81,7 @@ pub fn combining_class(c: u16) -> u8
 }
 
 // What two code points compose to.
-#[derive(Drop)]
+#[derive(Clone, Copy)]
 pub enum Made {
     Point(u16),
     Nothing,

@@ -1,4 +1,6 @@
 // Parts of the libraries that are no C function of their own, exported to be compared with the Rust and timed. Not shipped.
+#![tactic(auto)]
+
 ghost use Rattle.std.specs.Prelude.{◌≡◌, []};
 ghost use Rattle.ji.specs.Unicode.{unicode16};
 ghost use Rattle.ji.specs.Reply.{textCall};

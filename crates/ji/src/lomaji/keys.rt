@@ -18,13 +18,13 @@ use crate::unicode::Decoded;
 use crate::{reply, tone, unicode};
 
 // The two spellings of o with U+0358: ou, and oo.
-#[derive(Drop)]
+#[derive(Clone, Copy)]
 pub enum Form {
     Plain,
     Oo,
 }
 
-#[derive(Drop)]
+#[derive(Clone, Copy)]
 pub enum Kind {
     Detoned,
     Numeric,
@@ -32,7 +32,7 @@ pub enum Kind {
 }
 
 // The key that a tone adds.
-#[derive(Drop)]
+#[derive(Clone, Copy)]
 pub(crate) enum ToneKey {
     Nothing,
     Key(u8),

@@ -5,7 +5,7 @@ ghost use Rattle.ji.specs.Utf8.{bytes};
 ghost use Rattle.ji.specs.Lomaji.Khin.{afterKhin, khinOf, khinNumber};
 
 // Whether a text has the mark.
-#[derive(Drop)]
+#[derive(Clone, Copy)]
 pub enum Khin {
     No,
     Yes,

@@ -17,7 +17,7 @@ use ucd::Mapping;
 
 // How many bytes are written, the last tone mark (0 before the first), the last code point that was written where that is a mark (0 where it is
 // none), and whether the marks that were written are in order.
-#[derive(Drop)]
+#[derive(Clone, Copy)]
 struct Progress {
     n: usize,
     mark: u16,
@@ -26,7 +26,7 @@ struct Progress {
 }
 
 // What the walk gives: the stripped text in the buffer and the tone of its last mark, None where it has none.
-#[derive(Drop)]
+#[derive(Clone, Copy)]
 pub(crate) enum Outcome {
     Whole(ByteLen, Tone),
     GivenUp,

@@ -17,14 +17,14 @@ use crate::unicode::{ByteLen, CharLen, Decoded};
 use crate::{nfd, reply, unicode, utf8};
 
 // The length of the stripped text, and the tone.
-#[derive(Drop)]
+#[derive(Clone, Copy)]
 pub struct StripResult {
     pub len: ByteLen,
     pub tone: Tone,
 }
 
 // What the call answers.
-#[derive(Drop)]
+#[derive(Clone, Copy)]
 pub enum Strip {
     Done(StripResult),
     Refused(Refusal),
@@ -47,7 +47,7 @@ pub(crate) fn mark_tone(c: u16) -> Tone
 }
 
 // How many code points are left of a text, and the tone of its last mark, None where it has none.
-#[derive(Drop)]
+#[derive(Clone, Copy)]
 pub(crate) struct Dropped {
     pub left: CharLen,
     pub tone: Tone,

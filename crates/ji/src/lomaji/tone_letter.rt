@@ -10,7 +10,7 @@ use crate::unicode::{ByteLen, CharLen, Decoded};
 use crate::{nfd, text, unicode};
 
 // Where a tone letter stands, in code points.
-#[derive(Drop)]
+#[derive(Clone, Copy)]
 pub enum Place {
     At(CharLen),
     Nowhere,
@@ -230,7 +230,7 @@ fn ascii_first_tried(s: &[u8]) -> usize
 }
 
 // Where a tone letter stands, in bytes.
-#[derive(Drop)]
+#[derive(Clone, Copy)]
 pub enum BytePlace {
     At(ByteLen),
     Nowhere,
@@ -282,7 +282,7 @@ pub fn holds_letter(s: &[u16]) -> bool
 }
 
 // What the call answers: where the tone letter stands, in bytes, or that there is none.
-#[derive(Drop)]
+#[derive(Clone, Copy)]
 pub enum ToneLetter {
     At(ByteLen),
     Nothing,
@@ -330,7 +330,7 @@ pub fn tone_letter(text: &[u8]) -> ToneLetter
 }
 
 // What `has_tone_letter` answers.
-#[derive(Drop)]
+#[derive(Clone, Copy)]
 pub enum HasToneLetter {
     Yes,
     No,

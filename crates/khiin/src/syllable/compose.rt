@@ -361,7 +361,7 @@ fn move_sign(s: &mut [u16], sign: u16) -> usize
 }
 
 // A text at the front of a buffer: how many code points it has, and whether none before its end is a sign.
-#[derive(Drop)]
+#[derive(Clone, Copy)]
 struct Settled {
     len: usize,
     lone: bool,

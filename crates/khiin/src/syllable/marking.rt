@@ -17,7 +17,7 @@ use ji::tone::Tone;
 use ji::unicode::ByteLen;
 
 // What a tone adds.
-#[derive(Drop)]
+#[derive(Clone, Copy)]
 pub(crate) enum Mark {
     Nothing,
     Point(u16),
