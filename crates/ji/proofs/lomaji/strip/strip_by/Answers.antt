@@ -1,0 +1,44 @@
+use mathlib.Core.Path.{◌≡◌, ap, ◌∙◌, subst}
+use mathlib.Core.List.{List}
+use Prim.Native.Nat.{ℕ, ◌-◌, ◌≤◌}
+use native.Mathlib.Nat.{sub-zero}
+use lib.ListN.{length, take}
+use Rattle.ucd.specs.Unicode16.{unicode16}
+use Rattle.ji.specs.Utf8.{encode}
+use Rattle.ji.specs.Nfd.{nfd}
+use Rattle.ji.specs.Tone.{toneNumber}
+use Rattle.ji.specs.Reply.{placed}
+use Rattle.ji.specs.Lomaji.Strip.{withoutMarks, toneOr, unmarkedTone, stripCall}
+use Rattle.ji.specs.Lomaji.Quick.{Walked}
+use Rattle.ji.specs.declared.tone.Tone.{Tone}
+use Rattle.ji.specs.declared.unicode.ByteLen.{ByteLen}
+use Rattle.ji.specs.declared.lomaji.quick.Outcome.{Outcome}
+use Rattle.ji.specs.declared.lomaji.quick.Outcome.TheVariants.{Whole}
+use Rattle.ji.proofs.Writing.{written-take, written-length}
+use Rattle.ji.proofs.lomaji.strip.Laws.{strip-told}
+use native.Mathlib.Omega.{arith}
+use Rattle.ji.proofs.lomaji.strip.strip_by.Goals as goal
+
+-- what the walk says of the answer that it gave
+told : (s before after : List ℕ) (answer x : Outcome) → answer ≡ x → Walked s before after answer → Walked s before after x
+told s before after answer x e h = subst (Walked s before after) e h
+
+-- the bytes that it wrote, and the tone, are the stripped text's
+module _ (s before after : List ℕ) (len : ByteLen) (last : Tone) (h : Walked s before after (Whole len last)) (short : length s ≤ 256) (out : List ℕ) where
+  abbrev rest : List ℕ
+  rest = take (len.0 - 0) after
+
+  front : rest ≡ encode (withoutMarks (nfd unicode16 h.0))
+  front = ap (λ (k : ℕ). take k after) (sub-zero len.0) ∙ written-take h.2
+
+  whole : placed (toneNumber (toneOr last (unmarkedTone rest))) rest out ≡ stripCall unicode16 s out
+  whole = strip-told unicode16 s out h.0 h.1 short last rest h.3 front
+
+pub slice_bounds-place_bytes-end : goal.slice_bounds-place_bytes-end
+slice_bounds-place_bytes-end c = let w = (told _ _ _ _ _ c.in-Whole.is c.walk.ensures).2 in omega (arith, w.fits, written-length w)
+
+pub returns-in-Whole : goal.returns-in-Whole
+returns-in-Whole c =
+    let w = c.walk in
+    c.place_bytes.ensures
+    ∙ whole c.args.text.now c.args.bytes.now w.new.out _ _ (told _ _ _ _ _ c.in-Whole.is w.ensures) c.requires.0 c.args.out.now

@@ -1,0 +1,45 @@
+use mathlib.Core.Path.{◌≡◌, ap, ◌∙◌, subst}
+use mathlib.Core.Bool.{true}
+use mathlib.Core.List.{List}
+use Prim.Native.Nat.{ℕ, ◌-◌}
+use native.Mathlib.Nat.{sub-zero}
+use lib.ListN.{take}
+use Rattle.ucd.specs.Unicode16.{unicode16}
+use Rattle.ji.specs.Written.{Written}
+use Rattle.ji.specs.Nfd.{order}
+use Rattle.ji.specs.Lomaji.Strip.{strippedReply}
+use Rattle.ji.specs.Reading.{Reading}
+use Rattle.ji.specs.declared.unicode.Decoded.{Decoded}
+use Rattle.ji.proofs.Writing.{written-take, written-length}
+use Rattle.ji.proofs.Replies.{check-within}
+use Rattle.ji.proofs.lomaji.strip.Laws.{strip-refused, strip-good}
+use native.Mathlib.Omega.{arith}
+use Rattle.ji.proofs.lomaji.strip.strip_in.Goals as goal
+
+-- what the reader says of the answer that it gave
+told : (s before after : List ℕ) (answer x : Decoded) → answer ≡ x → Reading unicode16 true s before after answer → Reading unicode16 true s before after x
+told s before after answer x e h = subst (Reading unicode16 true s before after) e h
+
+front : (before after : List ℕ) (n : ℕ) (s : List ℕ) → Written before after n s → take (n - 0) after ≡ s
+front before after n s w = ap (λ (k : ℕ). take k after) (sub-zero n) ∙ written-take w
+
+pub slice_bounds-finish-end : goal.slice_bounds-finish-end
+slice_bounds-finish-end c =
+    let w = (told _ _ _ _ _ c.in-Points.is c.decode.ensures).2 in
+    omega (arith, w.fits, written-length w)
+
+pub finish-requires : goal.finish-requires
+finish-requires c =
+    let w = (told _ _ _ _ _ c.in-Points.is c.decode.ensures).2 in
+    rw (front _ _ _ _ w, w.size) (omega (arith, w.fits, c.requires))
+
+pub returns-in-Refused : goal.returns-in-Refused
+returns-in-Refused c =
+    strip-refused unicode16 c.args.text.now c.args.out.now _ (check-within unicode16 c.args.text.now c.requires.0 ∙ (told _ _ _ _ _ c.in-Refused.is c.decode.ensures).0)
+
+pub returns-in-Points : goal.returns-in-Points
+returns-in-Points c =
+    let h = told _ _ _ _ _ c.in-Points.is c.decode.ensures in
+    c.finish.ensures
+    ∙ ap (λ (s : List ℕ). strippedReply (order unicode16 s) c.args.out.now) (front _ _ _ _ h.2)
+    ∙ strip-good unicode16 c.args.text.now c.args.out.now h.0 (check-within unicode16 c.args.text.now c.requires.0 ∙ h.1)

@@ -1,0 +1,35 @@
+-- `ji::nfc::absorb` meets its contract. The loop's invariant: R1 and R2 on the whole text are R1 and R2 on what stands before i.
+use mathlib.Core.Path.{refl, sym, ◌∙◌, ap}
+use native.Mathlib.Omega.{arith}
+use Rattle.ucd.specs.Unicode16.{unicode16}
+use Rattle.ucd.specs.Answer.{point_of}
+use Rattle.ji.specs.Nfc.{reversed}
+use Rattle.ji.proofs.ComposeLoops.{searching-start, searching-more, searching-blocked, searching-none, searching-some, searching-end, low-stays}
+use Rattle.ji.proofs.nfc.absorb.Goals as goal
+
+pub returns-then-c-lt768 : goal.returns-then-c-lt768
+returns-then-c-lt768 c = (sym (low-stays c.args.c c.if-c-lt768.true (reversed c.args.s.now)), λ e. refl)
+
+pub loop-i-init : goal.loop-i-init
+loop-i-init c = searching-start unicode16 c.args.s.now c.args.c
+
+pub returns-in-Point : goal.returns-in-Point
+returns-in-Point c =
+    searching-some unicode16 c.loop-i.invariant c.loop-i-test.true (sym c.class_of-before.ensures ∙ c.if-before-eq0.true)
+    c.in-Point.p (sym (ap point_of c.in-Point.is) ∙ c.composite.ensures)
+
+pub returns-in-Nothing : goal.returns-in-Nothing
+returns-in-Nothing c =
+    searching-none unicode16 c.loop-i.invariant c.loop-i-test.true (sym c.class_of-before.ensures ∙ c.if-before-eq0.true)
+    (sym (ap point_of c.in-Nothing.is) ∙ c.composite.ensures)
+
+pub returns-then-class-before : goal.returns-then-class-before
+returns-then-class-before c =
+    searching-blocked unicode16 c.loop-i.invariant c.loop-i-test.true (λ z. omega arith) (omega arith)
+
+pub loop-i-preserved : goal.loop-i-preserved
+loop-i-preserved c =
+    searching-more unicode16 c.loop-i.invariant c.loop-i-test.true (λ z. omega arith) (omega arith)
+
+pub returns : goal.returns
+returns c = searching-end unicode16 c.loop-i.invariant c.loop-i-test.false

@@ -1,0 +1,121 @@
+use mathlib.Core.Path.{◌≡◌, sym, ap, ◌∙◌, subst}
+use mathlib.Core.Bool.{Bool, true, false}
+use mathlib.Core.List.{List, [], ◌∷◌}
+use Prim.Native.Nat.{ℕ, ◌+◌, ◌-◌, ◌*◌, ◌≤◌, ◌<◌}
+use lib.ListN.{length, drop}
+use lib.Dec.{T}
+use lib.Seq.{paste}
+use Rattle.ucd.specs.Table.{member}
+use Rattle.ucd.specs.Unicode16.{unicode16}
+use Rattle.ucd.proofs.Unicode16.{member_below}
+use Rattle.ji.specs.Utf8.{width_at, pointAt, ReadOf, decode, isDecoded}
+use Rattle.ji.specs.Unicode.{spread}
+use Rattle.ji.specs.Reading.{spreadText, Reading}
+use Rattle.ji.specs.declared.reply.Refusal.TheVariants.{IllFormed, OutsideTable}
+use Rattle.ji.specs.declared.unicode.Spread.{Spread}
+use Rattle.ji.specs.declared.unicode.Decoded.TheVariants.{Refused}
+use Rattle.ji.proofs.Writing.{written-length}
+use Rattle.ji.proofs.utf8.Decoding.{width-most}
+use Rattle.ji.proofs.unicode.Reader.{spread-room, width-within, Read, read-start, read-end, read-ill, read-outside, read-outside-ill, read_more}
+use native.Mathlib.Omega.{arith}
+use Rattle.ji.proofs.unicode.decode.Goals as goal
+
+-- a turn that reads a sequence of width w and code point p
+module _ (d : Bool) (s before out : List ℕ) (i n w p : ℕ) (r : Read unicode16 d s before out i n) (h : i < length s) (q : ReadOf (drop i s) w p) (some : w ≡ 0 → ⊥) where
+  wide : w ≡ width_at (drop i s)
+  wide = q.wide
+
+  positive : 0 < width_at (drop i s)
+  positive = omega (arith, wide, some)
+
+  point : p ≡ pointAt (drop i s)
+  point = q.read (omega (arith, some))
+
+  step : w ≤ 4
+  step = omega (arith, wide, width-most (drop i s))
+
+  -- outside the table
+  module _ (m : false ≡ member unicode16 p) where
+    outside : member unicode16 (pointAt (drop i s)) ≡ false
+    outside = ap (member unicode16) (sym point) ∙ sym m
+
+    returns-outside : isDecoded (decode (drop i s)) ≡ true → Reading unicode16 d s before out (Refused OutsideTable)
+    returns-outside = read-outside unicode16 d s before out i n r h positive outside
+
+    returns-ill : isDecoded (decode (drop i s)) ≡ false → Reading unicode16 d s before out (Refused IllFormed)
+    returns-ill = read-outside-ill unicode16 d s before out i n r h positive outside
+
+  -- in the table
+  module _ (m : true ≡ member unicode16 p) where
+    inside : member unicode16 (pointAt (drop i s)) ≡ true
+    inside = ap (member unicode16) (sym point) ∙ sym m
+
+    low : p < 0xD800
+    low = member_below p (subst T m tt)
+
+    module _ (x : Spread) (e : spreadText x ≡ spread unicode16 d (p ∷ [])) (room : 3 * length s ≤ 2 * length before) where
+      same_text : spread unicode16 d (pointAt (drop i s) ∷ []) ≡ spreadText x
+      same_text = ap (λ (k : ℕ). spread unicode16 d (k ∷ [])) (sym point) ∙ sym e
+
+      few : 2 * length (spread unicode16 d (pointAt (drop i s) ∷ [])) ≤ 3 * width_at (drop i s)
+      few = spread-room d s i h positive
+
+      enough : n + length (spread unicode16 d (pointAt (drop i s) ∷ [])) ≤ length before
+      enough = let k = r.short in omega (arith, few, width-within s i h)
+
+      room-left : n + length (spreadText x) ≤ length out
+      room-left = rw (written-length r.written, ← same_text) enough
+
+      again : (m' : ℕ) (out' : List ℕ) → m' ≡ n + length (spreadText x) → out' ≡ paste out n (spreadText x) (length (spreadText x)) → Read unicode16 d s before out' (i + w) m'
+      again m' out' em eo =
+          rw (em, eo, wide, ← same_text) (read_more unicode16 d s before out i n r h positive inside few enough)
+
+pub loop-i-init : goal.loop-i-init
+loop-i-init c = let a = c.args in read-start unicode16 a.decomposed a.s.now a.out.now
+
+pub returns-then-width-eq0 : goal.returns-then-width-eq0
+returns-then-width-eq0 c =
+    let a = c.args in
+    read-ill unicode16 a.decomposed a.s.now a.out.now c.loop-i.out c.loop-i.i c.loop-i.n c.loop-i.invariant c.loop-i-test.true (sym c.read-sequence.ensures.wide ∙ c.if-width-eq0.true)
+
+pub overflow_cast-point : goal.overflow_cast-point
+overflow_cast-point c =
+    let x = c.args in
+    let k = low x.decomposed x.s.now x.out.now c.loop-i.out c.loop-i.i c.loop-i.n _ _ c.loop-i.invariant c.loop-i-test.true c.read-sequence.ensures c.if-width-eq0.false (sym c.if-is_member.true ∙ c.is_member.ensures) in
+    omega arith
+
+pub put-n-requires : goal.put-n-requires
+put-n-requires c =
+    let x = c.args in
+    room-left x.decomposed x.s.now x.out.now c.loop-i.out c.loop-i.i c.loop-i.n _ _ c.loop-i.invariant c.loop-i-test.true c.read-sequence.ensures c.if-width-eq0.false (sym c.if-is_member.true ∙ c.is_member.ensures) c.spread_point.result c.spread_point.ensures c.requires
+
+pub overflow_add-i : goal.overflow_add-i
+overflow_add-i c =
+    let x = c.args in
+    let k = step x.decomposed x.s.now x.out.now c.loop-i.out c.loop-i.i c.loop-i.n _ _ c.loop-i.invariant c.loop-i-test.true c.read-sequence.ensures c.if-width-eq0.false in
+    omega arith
+
+pub loop-i-smaller : goal.loop-i-smaller
+loop-i-smaller c =
+    let k = c.if-width-eq0.false in
+    omega arith
+
+pub loop-i-preserved : goal.loop-i-preserved
+loop-i-preserved c =
+    let x = c.args in
+    again x.decomposed x.s.now x.out.now c.loop-i.out c.loop-i.i c.loop-i.n _ _ c.loop-i.invariant c.loop-i-test.true c.read-sequence.ensures c.if-width-eq0.false (sym c.if-is_member.true ∙ c.is_member.ensures) c.spread_point.result c.spread_point.ensures c.requires c.put-n.result c.put-n.new.out c.put-n.ensures.0 c.put-n.ensures.1
+
+pub returns-then-well_formed : goal.returns-then-well_formed
+returns-then-well_formed c =
+    let x = c.args in
+    returns-outside x.decomposed x.s.now x.out.now c.loop-i.out c.loop-i.i c.loop-i.n _ _ c.loop-i.invariant c.loop-i-test.true c.read-sequence.ensures c.if-width-eq0.false (sym c.if-is_member.false ∙ c.is_member.ensures) (sym c.well_formed-else-is_member.ensures ∙ c.if-well_formed.true)
+
+pub returns-else-is_member : goal.returns-else-is_member
+returns-else-is_member c =
+    let x = c.args in
+    returns-ill x.decomposed x.s.now x.out.now c.loop-i.out c.loop-i.i c.loop-i.n _ _ c.loop-i.invariant c.loop-i-test.true c.read-sequence.ensures c.if-width-eq0.false (sym c.if-is_member.false ∙ c.is_member.ensures) (sym c.well_formed-else-is_member.ensures ∙ c.if-well_formed.false)
+
+pub returns : goal.returns
+returns c =
+    let x = c.args in
+    read-end unicode16 x.decomposed x.s.now x.out.now c.loop-i.out c.loop-i.i c.loop-i.n c.loop-i.invariant c.loop-i-test.false

@@ -1,0 +1,26 @@
+use mathlib.Core.Path.{sym}
+use Prim.Native.Nat.{◌-◌}
+use borrow.Author.Tests.{le-leb, lt-leb}
+use lib.ListN.{length}
+use Rattle.ji.specs.Utf8.{encode}
+use Rattle.ji.proofs.utf8.Encoding.{length_at, length-end}
+use native.Mathlib.Omega.{arith}
+use Rattle.ji.proofs.utf8.fits.Goals as goal
+
+pub returns-then-left-size : goal.returns-then-left-size
+returns-then-left-size c =
+    let l = c.loop-i in
+    let a = c.args in
+    sym (lt-leb (length (encode a.s.now)) a.room (omega (arith, length_at a.s.now l.i (omega arith))))
+
+pub loop-i-preserved : goal.loop-i-preserved
+loop-i-preserved c =
+    let l = c.loop-i in
+    let a = c.args in
+    omega (arith, length_at a.s.now l.i (omega arith))
+
+pub returns : goal.returns
+returns c =
+    let l = c.loop-i in
+    let a = c.args in
+    sym (le-leb (length (encode a.s.now)) a.room (omega (arith, length-end a.s.now l.i c.loop-i-test.false)))
