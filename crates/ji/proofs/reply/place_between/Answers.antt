@@ -12,7 +12,6 @@ use Rattle.ji.proofs.reply.place_between.Goals.{After-byte_count-size}
 
 -- the whole text, and its length
 module _ (c : After-byte_count-size) where
-
   abbrev text : List ℕ
   text = c.args.before.now ++ (bytes_of c.args.x ++ c.args.after.now)
 

@@ -35,7 +35,6 @@ module _ (p r s : List ℕ) (i width size : ℕ) (more : i < length s) where
 
 -- a turn of the loop, where its two ways meet
 module _ (c : Joined-begins_at) where
-
   abbrev s : List ℕ
   s = c.args.s.now
 

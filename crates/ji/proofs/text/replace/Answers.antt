@@ -15,7 +15,6 @@ use Rattle.ji.proofs.text.replace.Goals.{Else-begins_at, In-loop-i, Then-begins_
 
 -- a turn of the loop
 module _ (c : In-loop-i) where
-
   abbrev src : List ℕ
   src = c.args.src.now
 

@@ -16,7 +16,6 @@ use Rattle.ji.proofs.text.replace_same.Goals.{In-loop-i}
 
 -- a turn of the loop
 module _ (c : In-loop-i) where
-
   abbrev s₀ : List ℕ
   s₀ = c.args.s.now
 

@@ -28,9 +28,6 @@ use Rattle.ji.proofs.lomaji.keys.keys_in.Goals.{After-tone_key-key}
 
 -- the text was stripped, and the key of its tone found
 module _ (c : After-tone_key-key) where
-
-
-
   abbrev result_of : StripResult
   result_of = c.in-Done.result
 

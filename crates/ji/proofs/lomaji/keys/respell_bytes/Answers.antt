@@ -23,7 +23,6 @@ use Rattle.ji.proofs.lomaji.keys.respell_bytes.Goals.{After-points}
 
 -- the code points were read
 module _ (c : After-points) where
-
   abbrev bytes : List ℕ
   bytes = c.args.stripped.now
 
@@ -77,7 +76,7 @@ pub returns-in-Points : goal.returns-in-Points
 returns-in-Points c =
     λ rest inside is.
     let v = c.respell-m.ensures.1 in
-    let same : take (c.in-Points.len.0 - 0) (after (goal.at.returns-in-Points c).After-points) ≡ rest = front (read (goal.at.returns-in-Points c).After-points c.in-Points.len c.in-Points.is) ∙ good-same (sym (passes (goal.at.returns-in-Points c).After-points c.in-Points.len c.in-Points.is) ∙ bytes_good _ rest inside is) in
+    let same : take (c.in-Points.len.0 - 0) c.points.new.out ≡ rest = front (read (goal.at.returns-in-Points c).After-points c.in-Points.len c.in-Points.is) ∙ good-same (sym (passes (goal.at.returns-in-Points c).After-points c.in-Points.len c.in-Points.is) ∙ bytes_good _ rest inside is) in
     let f = c.args.form in
     let w = subst (λ (s : List ℕ). Written c.args.letters.now c.respell-m.new.out c.respell-m.result (respell (rulesOf f) s)) same v in
     rw (c.put_key.ensures.0, c.put_key.ensures.1) (written-run w (keyText c.args.key) (key-room (goal.at.returns-in-Points c).After-points c.in-Points.len c.in-Points.is _ _ v))

@@ -12,11 +12,10 @@ use Rattle.ji.proofs.text.Laws.{drop-next, points-first, points-second, points-o
 use Rattle.ji.proofs.lomaji.keys.Laws.{nasals-apart, nasals-end}
 use Rattle.ji.proofs.lomaji.keys.respell_nasals.Invariants.{nasals}
 use Rattle.ji.proofs.lomaji.keys.respell_nasals.Goals as goal
-use Rattle.ji.proofs.lomaji.keys.respell_nasals.Goals.{Else-c-eq7482, In-loop-i}
+use Rattle.ji.proofs.lomaji.keys.respell_nasals.Goals.{In-loop-i}
 
 -- a turn of the loop, at the code point x
 module _ (c : In-loop-i) where
-
   abbrev src : List ℕ
   src = c.args.src.now
 

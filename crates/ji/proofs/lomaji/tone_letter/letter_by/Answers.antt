@@ -12,11 +12,10 @@ use Rattle.ji.proofs.Readings.{front, told}
 use Rattle.ji.proofs.lomaji.tone_letter.Laws.{letter-refused, letter-good}
 use native.Mathlib.Omega.{arith}
 use Rattle.ji.proofs.lomaji.tone_letter.letter_by.Goals as goal
-use Rattle.ji.proofs.lomaji.tone_letter.letter_by.Goals.{After-points, Start}
+use Rattle.ji.proofs.lomaji.tone_letter.letter_by.Goals.{After-points}
 
 -- the text was read
 module _ (c : After-points) where
-
   reading : Reading unicode16 false c.args.text.now c.args.points.now c.points.new.out c.points.result
   reading = c.points.ensures.0 c.requires.1
 
