@@ -1,0 +1,103 @@
+-- `key_sequence::lay_single` meets its contract: both forms stand in the buffer, and the row has one of them or both.
+use mathlib.Core.Path.{◌≡◌, sym, ap₂, ◌∙◌, subst}
+use mathlib.Core.Bool.{Bool, true, false}
+use mathlib.Core.List.{List}
+use Prim.Native.Nat.{ℕ, ◌-◌, ◌≤◌}
+use lib.ListN.{length, take, drop}
+use Rattle.ji.specs.Unicode.{unicode16, same}
+use Rattle.ji.specs.declared.lomaji.keys.Form.TheVariants.{Plain, Oo}
+use Rattle.khiin_entries.specs.Choices.{formBytes, rowOne, rowTwo, RowOf}
+use Rattle.khiin_entries.specs.declared.key_sequence.Row.{Row}
+use Rattle.khiin_entries.proofs.key_sequence.Forms.{single-one, single-two}
+use Rattle.khiin_entries.proofs.key_sequence.Rows.{cut, one-row, two-row, first-room, one-short, TwoPut, two-length, two-first, two-second, two-front, two-short}
+use native.Mathlib.Omega.{arith}
+use Rattle.khiin_entries.proofs.key_sequence.lay_single.Goals as goal
+use Rattle.khiin_entries.proofs.key_sequence.lay_single.Goals.{After-put_form-end}
+
+module _ (b : After-put_form-end) where
+
+
+  abbrev part : List ℕ
+  part = b.args.part.now
+
+  abbrev before : List ℕ
+  before = b.args.forms.now
+
+  abbrev at : ℕ
+  at = b.args.at
+
+  abbrev mid : ℕ
+  mid = b.put_form-mid.result
+
+  abbrev end : ℕ
+  end = b.put_form-end.result
+
+  abbrev after : List ℕ
+  after = b.put_form-end.new.forms
+
+  abbrev p : List ℕ
+  p = formBytes unicode16 Plain b.args.kind part
+
+  abbrev o : List ℕ
+  o = formBytes unicode16 Oo b.args.kind part
+
+  -- both forms are put
+  both : TwoPut b.args.kind part before at mid end after
+  both =
+      record {
+        middle = b.put_form-mid.new.forms;
+        one = record { room = b.requires; ends = b.put_form-mid.ensures.0; put = b.put_form-mid.ensures.1 };
+        ends = b.put_form-end.ensures.0;
+        put = b.put_form-end.ensures.1;
+      }
+
+  ordered : (at ≤ mid) × (mid ≤ end) × (end ≤ length after) × (end ≤ 65535)
+  ordered = (omega (arith, b.put_form-mid.ensures.0), (two-short _ _ _ _ both).0, omega (arith, (two-short _ _ _ _ both).2, two-length _ _ _ _ both), (two-short _ _ _ _ both).3)
+
+  -- what the comparison says
+  compared : (r : Bool) → r ≡ same (take (mid - at) (drop at after)) (take (end - mid) (drop mid after)) → same p o ≡ r
+  compared r e =
+      sym (e ∙ ap₂ same (cut (two-first _ _ _ _ both) (mid - at) (omega (arith, b.put_form-mid.ensures.0))) (cut (two-second _ _ _ _ both) (end - mid) (omega (arith, b.put_form-end.ensures.0))))
+
+  one : (row : Row) → row ≡ rowOne at mid → same p o ≡ true → RowOf unicode16 true b.args.kind part at before after row
+  one row e same =
+      subst (λ (r : Row). RowOf unicode16 true b.args.kind part at before after r) (sym e)
+      (one-row true _ part before after at (two-front _ _ _ _ both) p (two-first _ _ _ _ both) mid b.put_form-mid.ensures.0 (single-one part b.requires.0 b.args.kind same) (one-short _ _ _ _ both.one).0)
+
+  two : (row : Row) → row ≡ rowTwo at mid end → same p o ≡ false → RowOf unicode16 true b.args.kind part at before after row
+  two row e differ =
+      subst (λ (r : Row). RowOf unicode16 true b.args.kind part at before after r) (sym e)
+      (two-row true _ part before after at (two-front _ _ _ _ both) p (two-first _ _ _ _ both) mid b.put_form-mid.ensures.0 o (two-second _ _ _ _ both) end b.put_form-end.ensures.0 (single-two part b.requires.0 b.args.kind differ) (two-short _ _ _ _ both).1)
+
+pub put_form-mid-requires : goal.put_form-mid-requires
+put_form-mid-requires c = (c.requires.0, first-room c.args.kind c.args.part.now c.args.forms.now c.args.at c.requires)
+
+pub put_form-end-requires : goal.put_form-end-requires
+put_form-end-requires c =
+    (c.requires.0, (one-short c.args.kind c.args.part.now c.args.forms.now c.args.at (record { room = c.requires; ends = c.put_form-mid.ensures.0; put = c.put_form-mid.ensures.1 })).1)
+
+pub slice_bounds-same-start : goal.slice_bounds-same-start
+slice_bounds-same-start c = omega (arith, ordered (goal.at.slice_bounds-same-start c).After-put_form-end)
+
+pub slice_bounds-same-end : goal.slice_bounds-same-end
+slice_bounds-same-end c = omega (arith, ordered (goal.at.slice_bounds-same-end c).After-put_form-end)
+
+pub slice_bounds-same-start-2 : goal.slice_bounds-same-start-2
+slice_bounds-same-start-2 c = omega (arith, ordered (goal.at.slice_bounds-same-start-2 c).After-put_form-end)
+
+pub slice_bounds-same-end-2 : goal.slice_bounds-same-end-2
+slice_bounds-same-end-2 c = omega (arith, ordered (goal.at.slice_bounds-same-end-2 c).After-put_form-end)
+
+pub row_one-requires : goal.row_one-requires
+row_one-requires c = omega (arith, ordered (goal.at.row_one-requires c).After-put_form-end)
+
+pub returns-then-same : goal.returns-then-same
+returns-then-same c =
+    one (goal.at.returns-then-same c).After-put_form-end c.row_one.result c.row_one.ensures (compared (goal.at.returns-then-same c).After-put_form-end _ c.same.ensures ∙ c.if-same.true)
+
+pub row_two-requires : goal.row_two-requires
+row_two-requires c = omega (arith, ordered (goal.at.row_two-requires c).After-put_form-end)
+
+pub returns : goal.returns
+returns c =
+    two (goal.at.returns c).After-put_form-end c.row_two.result c.row_two.ensures (compared (goal.at.returns c).After-put_form-end _ c.same.ensures ∙ c.if-same.false)
