@@ -1,0 +1,87 @@
+use mathlib.Core.Path.{◌≡◌, sym, ap, ◌∙◌, subst}
+use mathlib.Core.Bool.{false}
+use mathlib.Core.List.{List, [], ◌∷◌, ◌++◌}
+use Prim.Native.Nat.{ℕ, ◌+◌, ◌-◌, ◌≤◌}
+use native.Mathlib.Nat.{sub-zero}
+use lib.ListN.{length, take, set, length-set}
+use lib.Seq.{length-take-le}
+use Rattle.ji.specs.Unicode.{unicode16}
+use Rattle.ji.specs.Utf8.{decode, encode}
+use Rattle.ji.specs.Written.{Written}
+use Rattle.ji.specs.Reply.{placed, good, checkPoints}
+use Rattle.ji.specs.Reading.{Reading}
+use Rattle.ji.specs.declared.unicode.CharLen.{CharLen}
+use Rattle.ji.specs.declared.unicode.Decoded.TheVariants.{Points}
+use Rattle.ji.proofs.Writing.{written-length, written-take, stored-key}
+use Rattle.ji.proofs.Readings.{told}
+use Rattle.ji.proofs.unicode.Laws.{spread-plain}
+use Rattle.ji.proofs.unicode.Checked.{bytes_good, good-same, good-not-bad}
+use Rattle.khiin.specs.Telex.{composedOf, RestIn}
+use Rattle.khiin.proofs.syllable.compose.Reading.{fewer}
+use Rattle.khiin.proofs.converter.Laws.{key-behind}
+use native.Mathlib.Omega.{arith}
+use Rattle.khiin.proofs.converter.compose_in.Goals as goal
+use Rattle.khiin.proofs.converter.compose_in.Goals.{After-points, After-points}
+
+-- the stripped text was read
+module _ (c : After-points) where
+  abbrev n : ℕ
+  n = c.args.n
+
+  abbrev part : List ℕ
+  part = take (n - 0) c.args.bytes.now
+
+  abbrev after : List ℕ
+  after = c.points.new.out
+
+  part-is : part ≡ take n c.args.bytes.now
+  part-is = ap (λ (m : ℕ). take m c.args.bytes.now) (sub-zero n)
+
+  size : length (take n c.args.bytes.now) ≡ n
+  size = let p = c.requires.1 in length-take-le n c.args.bytes.now (omega (arith, p))
+
+  reading : Reading unicode16 false part c.args.points.now after c.points.result
+  reading = let p = c.requires.2 in c.points.ensures.0 (rw part-is (omega (arith, size, p)))
+
+  module _ (h : RestIn c.args.bytes.now n) where
+    good-rest : checkPoints unicode16 (decode part) ≡ good h.rest
+    good-rest = bytes_good part h.rest h.inside (part-is ∙ h.written)
+
+    fewest : length h.rest ≤ n
+    fewest = omega (arith, fewer h.rest, ap length h.written, size)
+
+    module _ (len : CharLen) (is : c.points.result ≡ Points len) where
+      read : Written c.args.points.now after len.0 h.rest
+      read =
+          let g = told unicode16 part c.args.points.now after false is reading in
+          subst (λ (l : List ℕ). Written c.args.points.now after len.0 l) (spread-plain unicode16 g.0 ∙ good-same (sym g.1 ∙ good-rest)) g.2
+
+      raw-is : take (n + 1 - 0) (set c.args.bytes.now n c.args.key) ≡ encode (take len.0 after ++ (c.args.key ∷ []))
+      raw-is =
+          let key = c.args.key in
+          stored-key c.args.bytes.now n key c.requires.1
+          ∙ ap (λ (l : List ℕ). l ++ (key ∷ [])) h.written
+          ∙ key-behind h.rest key c.requires.0
+          ∙ ap (λ (l : List ℕ). encode (l ++ (key ∷ []))) (sym (written-take read))
+
+pub bounds-bytes-n : goal.bounds-bytes-n
+bounds-bytes-n c = c.requires.1
+
+pub slice_bounds-compose_step-end : goal.slice_bounds-compose_step-end
+slice_bounds-compose_step-end c = omega (arith, c.requires.1, length-set c.args.bytes.now c.args.n c.args.key)
+
+pub compose_step-requires : goal.compose_step-requires
+compose_step-requires c =
+    let w = read (goal.at.compose_step-requires c).After-points c.requires.4 c.in-Points.count c.in-Points.is in
+    (omega (arith, w.size, c.requires.4.few), omega (arith, w.size, fewest (goal.at.compose_step-requires c).After-points c.requires.4, written-length w, c.requires.3), raw-is (goal.at.compose_step-requires c).After-points c.requires.4 c.in-Points.count c.in-Points.is)
+
+pub returns-in-Refused : goal.returns-in-Refused
+returns-in-Refused c =
+    λ h.
+    absurd (good-not-bad (sym (good-rest (goal.at.returns-in-Refused c).After-points h) ∙ (told unicode16 _ _ _ false c.in-Refused.is (reading (goal.at.returns-in-Refused c).After-points)).0))
+
+pub returns-in-Points : goal.returns-in-Points
+returns-in-Points c =
+    λ h.
+    c.compose_step.ensures
+    ∙ ap (λ (l : List ℕ). placed 0 (encode (composedOf unicode16 c.args.k c.args.key c.args.tone l)) c.args.out.now) (written-take (read (goal.at.returns-in-Points c).After-points h c.in-Points.count c.in-Points.is))

@@ -1,0 +1,31 @@
+use mathlib.Core.Path.{◌≡◌, sym, ap, ◌∙◌}
+use mathlib.Core.List.{List}
+use mathlib.Core.Bool.{false}
+use Prim.Native.Nat.{ℕ, ◌+◌, ◌-◌}
+use native.Mathlib.Decide.{ℕ_discrete}
+use lib.ListN.{drop}
+use Rattle.khiin.specs.Compose.{isPair, NoPairIn}
+use native.Mathlib.Omega.{arith}
+use Rattle.khiin.proofs.syllable.compose.next_pair.Goals as goal
+
+-- one place more
+more : (s : List ℕ) (from i : ℕ) → NoPairIn from i s → isPair (drop i s) ≡ false → NoPairIn from (i + 1) s
+more s from i n e k l h = by_place (ℕ_discrete k i)
+  where
+    by_place : Dec (k ≡ i) → isPair (drop k s) ≡ false
+    by_place (yes z) = ap (λ (m : ℕ). isPair (drop m s)) z ∙ e
+    by_place (no z) = n k l (omega arith)
+
+pub loop-i-init : goal.loop-i-init
+loop-i-init c = (omega (arith, c.requires), omega (arith, c.requires), λ k l h. absurd (omega arith))
+
+pub returns-then-is_pair : goal.returns-then-is_pair
+returns-then-is_pair c =
+    (c.loop-i.invariant.0, omega arith, c.loop-i.invariant.2, λ h. sym c.is_pair.ensures ∙ c.if-is_pair.true)
+
+pub loop-i-preserved : goal.loop-i-preserved
+loop-i-preserved c =
+    (omega (arith, c.loop-i.invariant.0), omega arith, more c.args.s.now c.args.from c.loop-i.i c.loop-i.invariant.2 (sym c.is_pair.ensures ∙ c.if-is_pair.false))
+
+pub returns : goal.returns
+returns c = (c.loop-i.invariant.0, c.loop-i.invariant.1, c.loop-i.invariant.2, λ h. absurd (omega (arith, c.loop-i-test.false)))

@@ -1,0 +1,22 @@
+use mathlib.Core.Path.{ap, ◌∙◌}
+use mathlib.Core.List.{List}
+use Prim.Native.Nat.{ℕ}
+use Rattle.ji.specs.Unicode.{unicode16}
+use Rattle.ji.specs.Utf8.{encode}
+use Rattle.ji.specs.Reply.{placed}
+use Rattle.khiin.specs.Syllable.{mark_of, composedWith}
+use Rattle.khiin.proofs.syllable.compose.Laws.{composed-is}
+use native.Mathlib.Omega.{arith}
+use Rattle.khiin.proofs.syllable.compose.place_dotted.Goals as goal
+
+pub place_spelled-requires : goal.place_spelled-requires
+place_spelled-requires c =
+    omega (arith, c.write_whole-n.ensures.1, c.requires, c.write_whole-n.auto.out)
+
+pub returns : goal.returns
+returns c =
+    λ rawInput body e f.
+    c.place_spelled.ensures rawInput e
+    ∙ ap (λ (u : List ℕ). placed 0 (encode u) c.args.out.now)
+    (ap (λ (u : List ℕ). composedWith unicode16 rawInput u (mark_of c.args.tone)) c.write_whole-n.ensures.0.is
+    ∙ composed-is rawInput body c.args.s.now c.args.tone c.args.khin f)

@@ -1,0 +1,16 @@
+use mathlib.Core.Path.{ap, ◌∙◌}
+use lib.ListN.{take, drop}
+use Rattle.ji.specs.Lomaji.Keys.{respell}
+use Rattle.khiin.specs.Compose.{ePairs}
+use borrow.Author.Rules.{rules}
+use Rattle.khiin.proofs.syllable.compose.respell_e.Goals as goal
+
+pub returns : goal.returns
+returns c =
+    let a = c.args in
+    let rules = ePairs a.small a.capital in
+    c.replace_pair-4.ensures
+    ∙ ap (respell (drop 3 rules))
+    (c.replace_pair-3.ensures
+    ∙ ap (respell (take 1 (drop 2 rules)))
+    (c.replace_pair-2.ensures ∙ ap (respell (take 1 (drop 1 rules))) c.replace_pair.ensures))

@@ -1,0 +1,64 @@
+use mathlib.Core.Path.{◌≡◌, sym, ap, ◌∙◌}
+use mathlib.Core.Bool.{true, false}
+use mathlib.Core.List.{List, [], ◌∷◌}
+use Prim.Native.Nat.{ℕ, ◌+◌, ◌-◌, ◌≤◌, ◌<◌}
+use lib.ListN.{length, drop, get_or, set, length-drop, length-set}
+use Rattle.ji.specs.Text.{begins, replaceAll}
+use Rattle.ji.proofs.text.Laws.{begins-length, replace-at-hit, replace-at-miss, replace-end}
+use Rattle.khiin.proofs.syllable.compose.Laws.{Walk, walk_start, walk-length, walk-unread, walk_here, walk-one, walk_end}
+use native.Mathlib.Omega.{arith}
+use Rattle.khiin.proofs.syllable.compose.shrink_pair.Goals as goal
+
+module _ (a b c : ℕ) {s₀ s : List ℕ} {i n : ℕ} (v : Walk (replaceAll (a ∷ b ∷ []) (c ∷ [])) s₀ s i n) where
+  two-inside : begins (a ∷ b ∷ []) (drop i s) ≡ true → i + 2 ≤ length s
+  two-inside e = omega (arith, begins-length (a ∷ b ∷ []) (drop i s) e, length-drop i s)
+
+  module _ (h : i < length s) where
+    hit : begins (a ∷ b ∷ []) (drop i s) ≡ true → Walk (replaceAll (a ∷ b ∷ []) (c ∷ [])) s₀ (set s n c) (i + 2) (n + 1)
+    hit e =
+        walk-one v (i + 2) c
+        (replace-at-hit (a ∷ b ∷ []) (c ∷ []) s₀ i (omega arith) (omega (arith, walk-length v)) (ap (begins (a ∷ b ∷ [])) (sym (walk-unread v)) ∙ e))
+        (omega arith) (two-inside e)
+
+    miss : begins (a ∷ b ∷ []) (drop i s) ≡ false → Walk (replaceAll (a ∷ b ∷ []) (c ∷ [])) s₀ (set s n (get_or s i 0)) (i + 1) (n + 1)
+    miss e =
+        rw (walk_here v)
+        (walk-one v (i + 1) (get_or s₀ i 0)
+        (replace-at-miss (a ∷ b ∷ []) (c ∷ []) s₀ i (omega (arith, walk-length v)) (ap (begins (a ∷ b ∷ [])) (sym (walk-unread v)) ∙ e))
+        (omega arith) (omega arith))
+
+pub loop-i-init : goal.loop-i-init
+loop-i-init c = walk_start (replaceAll (c.args.a ∷ c.args.b ∷ []) (c.args.c ∷ [])) c.args.s.now
+
+pub bounds-s-n : goal.bounds-s-n
+bounds-s-n c = omega (arith, c.loop-i.invariant.behind)
+
+pub overflow_add-n : goal.overflow_add-n
+overflow_add-n c = omega (arith, c.loop-i.invariant.behind)
+
+pub overflow_add-i : goal.overflow_add-i
+overflow_add-i c = omega (arith, two-inside c.args.a c.args.b c.args.c c.loop-i.invariant (sym c.are_two.ensures ∙ c.if-are_two.true))
+
+pub loop-i-smaller-then-are_two : goal.loop-i-smaller-then-are_two
+loop-i-smaller-then-are_two c = simp length-set (omega arith)
+
+pub loop-i-preserved-then-are_two : goal.loop-i-preserved-then-are_two
+loop-i-preserved-then-are_two c = let a = c.args in hit a.a a.b a.c c.loop-i.invariant c.loop-i-test.true (sym c.are_two.ensures ∙ c.if-are_two.true)
+
+pub bounds-s-n-else-are_two : goal.bounds-s-n-else-are_two
+bounds-s-n-else-are_two c = omega (arith, c.loop-i.invariant.behind)
+
+pub overflow_add-n-else-are_two : goal.overflow_add-n-else-are_two
+overflow_add-n-else-are_two c = omega (arith, c.loop-i.invariant.behind)
+
+pub loop-i-smaller : goal.loop-i-smaller
+loop-i-smaller c = simp length-set (omega arith)
+
+pub loop-i-preserved : goal.loop-i-preserved
+loop-i-preserved c = let a = c.args in miss a.a a.b a.c c.loop-i.invariant c.loop-i-test.true (sym c.are_two.ensures ∙ c.if-are_two.false)
+
+pub returns : goal.returns
+returns c =
+    let v = c.loop-i.invariant in
+    let a = c.args in
+    walk_end v (replace-end (a.a ∷ a.b ∷ []) (a.c ∷ []) a.s.now c.loop-i.i (omega (arith, walk-length v)))

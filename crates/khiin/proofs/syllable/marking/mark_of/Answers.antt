@@ -1,0 +1,43 @@
+use mathlib.Core.Path.{refl}
+use Rattle.khiin.specs.Syllable.{mark_of}
+use Rattle.khiin.proofs.syllable.marking.mark_of.Goals as goal
+
+pub returns-in-None : goal.returns-in-None
+unfolding mark_of
+returns-in-None c = rw c.in-None.is refl
+
+pub returns-in-T1 : goal.returns-in-T1
+unfolding mark_of
+returns-in-T1 c = rw c.in-T1.is refl
+
+pub returns-in-T2 : goal.returns-in-T2
+unfolding mark_of
+returns-in-T2 c = rw c.in-T2.is refl
+
+pub returns-in-T3 : goal.returns-in-T3
+unfolding mark_of
+returns-in-T3 c = rw c.in-T3.is refl
+
+pub returns-in-T4 : goal.returns-in-T4
+unfolding mark_of
+returns-in-T4 c = rw c.in-T4.is refl
+
+pub returns-in-T5 : goal.returns-in-T5
+unfolding mark_of
+returns-in-T5 c = rw c.in-T5.is refl
+
+pub returns-in-T6 : goal.returns-in-T6
+unfolding mark_of
+returns-in-T6 c = rw c.in-T6.is refl
+
+pub returns-in-T7 : goal.returns-in-T7
+unfolding mark_of
+returns-in-T7 c = rw c.in-T7.is refl
+
+pub returns-in-T8 : goal.returns-in-T8
+unfolding mark_of
+returns-in-T8 c = rw c.in-T8.is refl
+
+pub returns-in-T9 : goal.returns-in-T9
+unfolding mark_of
+returns-in-T9 c = rw c.in-T9.is refl

@@ -1,0 +1,26 @@
+use mathlib.Core.Path.{◌≡◌, sym, ap, ◌∙◌}
+use mathlib.Core.Bool.{Bool, true, false}
+use mathlib.Core.List.{List}
+use Prim.Native.Nat.{ℕ}
+use lib.Dec.{leb}
+use borrow.Author.Tests.{le-leb, lt-leb}
+use Rattle.ji.specs.Unicode.{unicode16}
+use Rattle.ji.specs.Reply.{refused, pickReply}
+use Rattle.ji.specs.declared.reply.Refusal.TheVariants.{Argument}
+use Rattle.khiin_entries.specs.KeySequence.{keyingCall}
+use Rattle.robinflint.specs.Arguments.{kind_of, keyingNumbered}
+use Rattle.robinflint.proofs.rf_keying.Goals as goal
+
+-- the call by the test of its kind
+by-test : (entry : List ℕ) (kind position : ℕ) (buffer : List ℕ) (b : Bool) → leb kind 2 ≡ b → pickReply b (keyingCall unicode16 entry (kind_of kind) position buffer) (refused Argument buffer) ≡ keyingNumbered entry kind position buffer
+by-test entry kind position buffer b e = ap (λ (x : Bool). pickReply x (keyingCall unicode16 entry (kind_of kind) position buffer) (refused Argument buffer)) (sym e)
+
+pub returns-then-kind-gt2 : goal.returns-then-kind-gt2
+returns-then-kind-gt2 c = let a = c.args in c.refuse.ensures a.out.now ∙ by-test a.entry.now a.kind a.position a.out.now false (lt-leb _ _ c.if-kind-gt2.true)
+
+pub returns : goal.returns
+returns c =
+    let a = c.args in
+    c.keying.ensures c.keying_at.new.out
+    ∙ rw c.kind_of.ensures at c.keying_at.ensures
+    ∙ by-test a.entry.now a.kind a.position a.out.now true (le-leb _ _ c.if-kind-gt2.false)

@@ -1,0 +1,5 @@
+use mathlib.Core.Path.{◌∙◌}
+use Rattle.workbench.proofs.wb_nfd.Goals as goal
+
+pub returns : goal.returns
+returns c = let call = c.to_nfd in c.text.ensures call.new.out ∙ call.ensures
