@@ -36,5 +36,5 @@ pub returns : goal.returns
 returns c =
     let a = c.args in
     c.text.ensures c.convert_to_telex.new.out
-    ∙ rw (c.Mode-of.ensures, c.keys_of.ensures) at c.convert_to_telex.ensures
+    ∙ rw (c.mode_of.ensures, c.keys_of.ensures) at c.convert_to_telex.ensures
     ∙ by-test a.text.now a.key a.mode a.keys.now a.out.now true (le-leb _ _ c.if-mode-gt1.false)
