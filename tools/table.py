@@ -214,9 +214,9 @@ def source_file(rows, modulus):
     text = f"""// {NOTE}
 // The table in rows of {ROW} numbers: a constant array is copied where it is read, so it is kept short.
 ghost use Rattle.std.specs.Prelude.{{◌≡◌}};
-ghost use Rattle.ucd.specs.Table.{{decomposition, combiningClass, composite}};
+ghost use Rattle.ucd.specs.Table.{{mapping, combiningClass, composite}};
 ghost use Rattle.ucd.specs.Unicode16.{{unicode16}};
-ghost use Rattle.ucd.specs.Answer.{{unpacked, verified, displacementOf}};
+ghost use Rattle.ucd.specs.Answer.{{unpacked, verified}};
 """
     text += constants("MAPPINGS", "The mappings of", "u32", rows["mappings"], packed)
     text += constants("CLASSES", "The combining classes of", "u8", rows["classes"], str)
@@ -225,7 +225,7 @@ ghost use Rattle.ucd.specs.Answer.{{unpacked, verified, displacementOf}};
     return text + f"""
 // The mapping of c as one number: the first code point times 65536, plus the second, if there is one; 0 for none.
 pub(crate) fn mapping_number(c: u16) -> u32
-    ensures {{ unpacked c result ≡ decomposition unicode16 c }}
+    ensures {{ unpacked result ≡ mapping unicode16 c }}
 {{
     let at = (c % {ROW}) as usize;
     match c / {ROW} {{

@@ -1,30 +1,49 @@
 -- What the lookups answer, from the number or the decomposition that they read. Assumes nothing.
-use mathlib.Core.Path.{◌≡◌}
+use mathlib.Core.Path.{◌≡◌, refl, ◌∙◌, ap}
 use mathlib.Core.Bool.{and-false}
-use mathlib.Core.List.{[], ◌∷◌}
+use mathlib.Core.List.{List, [], ◌∷◌}
 use mathlib.Core.Option.{none, some}
 use Prim.Native.Nat.{ℕ, ◌/◌, ◌%◌}
 use lib.Dec.{eqb}
 use borrow.Author.Tests.{eq-eqb, ne_eqb}
-use Rattle.ucd.specs.Table.{same, decomposition, composite}
+use Rattle.ucd.specs.Table.{Table, same, mapping, decomposition, composite}
 use Rattle.ucd.specs.Unicode16.{unicode16}
-use Rattle.ucd.specs.Answer.{text_of, unpacked, verified}
+use Rattle.ucd.specs.Answer.{said, unpacked, verified}
+use Rattle.ucd.proofs.Lists.{orItself, mapping-decomposition}
 use Rattle.ucd.specs.declared.Mapping.{Mapping}
 use Rattle.ucd.specs.declared.Mapping.TheVariants.{Itself, One, Two}
 
+-- the decomposition of c that an answer says
+abbrev pub text_of : ℕ → Mapping → List ℕ
+text_of c Itself = c ∷ []
+text_of c (One a) = a ∷ []
+text_of c (Two a b) = a ∷ b ∷ []
+
+pub text-told : (t : Table) (c : ℕ) (m : Mapping) → said m ≡ mapping t c → text_of c m ≡ decomposition t c
+unfolding mapping decomposition
+text-told t c m says = go m ∙ ap (orItself c) says ∙ mapping-decomposition t.mappings c
+  where
+    go : (m : Mapping) → text_of c m ≡ orItself c (said m)
+    go Itself = refl
+    go (One a) = refl
+    go (Two a b) = refl
+
 -- what a number of the rows unpacks to
-module _ (c n : ℕ) where
-  pub unpacked-none : n ≡ 0 → c ∷ [] ≡ unpacked c n
+module _ (n : ℕ) where
+  pub unpacked-none : n ≡ 0 → none ≡ unpacked n
   unpacked-none e = rw e
 
-  pub unpacked-one : (n ≡ 0 → ⊥) → n % 65536 ≡ 0 → n / 65536 ∷ [] ≡ unpacked c n
-  unpacked-one Some-number e = rw (ne_eqb n 0 Some-number, eq-eqb (n % 65536) 0 e)
+  pub unpacked-one : (n ≡ 0 → ⊥) → n % 65536 ≡ 0 → some (n / 65536 ∷ []) ≡ unpacked n
+  unpacked-one some-number e = rw (ne_eqb n 0 some-number, eq-eqb (n % 65536) 0 e)
 
-  pub unpacked-two : (n ≡ 0 → ⊥) → (n % 65536 ≡ 0 → ⊥) → n / 65536 ∷ n % 65536 ∷ [] ≡ unpacked c n
-  unpacked-two Some-number e = rw (ne_eqb n 0 Some-number, ne_eqb (n % 65536) 0 e)
+  pub unpacked-two : (n ≡ 0 → ⊥) → (n % 65536 ≡ 0 → ⊥) → some (n / 65536 ∷ n % 65536 ∷ []) ≡ unpacked n
+  unpacked-two some-number e = rw (ne_eqb n 0 some-number, ne_eqb (n % 65536) 0 e)
 
 -- the composite of a and b, where p is the candidate and m says its decomposition
-module _ (a b p : ℕ) (m : Mapping) (says : text_of p m ≡ decomposition unicode16 p) (right : verified a b p ≡ composite unicode16 a b) where
+module _ (a b p : ℕ) (m : Mapping) (told : said m ≡ mapping unicode16 p) (right : verified a b p ≡ composite unicode16 a b) where
+  says : text_of p m ≡ decomposition unicode16 p
+  says = text-told unicode16 p m told
+
   pub made_itself : m ≡ Itself → none ≡ composite unicode16 a b
   unfolding same
   made_itself e = (rw (← says, e, and-false (eqb p a)) at right)

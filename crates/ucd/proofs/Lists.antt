@@ -3,9 +3,10 @@ use mathlib.Core.Path.{◌≡◌, refl, subst}
 use mathlib.Core.Bool.{Bool, true, false, ◌&&◌}
 use mathlib.Core.List.{List, [], ◌∷◌}
 use mathlib.Core.Logic.{◌⊎◌, inl, inr}
+use mathlib.Core.Option.{Option, none, some}
 use Prim.Native.Nat.{ℕ, ◌≤◌}
 use lib.Dec.{T, leb, eqb, leb→le, eqb→eq}
-use Rattle.ucd.specs.Table.{inRanges, mappingIn, classIn, pickText, pickNumber}
+use Rattle.ucd.specs.Table.{inRanges, mappingIn, mappingOf, classIn, pickText, pickNumber}
 use Rattle.ucd.proofs.Tests.{either, true-passes, both_left, both_right}
 
 -- the test f passes at each code point that has a mapping, and its mapping
@@ -27,6 +28,25 @@ mapping-passes f [] h c = inl refl
 mapping-passes f (r ∷ rs) h c =
     mapping-row f r.0 c r.1 (mappingIn rs c) (eqb r.0 c) refl (both_left (f r.0 r.1) (eachMapping f rs) h)
     (mapping-passes f rs (both_right (f r.0 r.1) (eachMapping f rs) h) c)
+
+-- and each number has no mapping in the list, or passes it with its decomposition
+pub mapping-none : (f : ℕ → List ℕ → Bool) (rs : List (ℕ × List ℕ)) → T (eachMapping f rs) → (c : ℕ) → (mappingOf rs c ≡ none) ⊎ T (f c (mappingIn rs c))
+unfolding mappingOf mappingIn
+mapping-none f [] h c = inl refl
+mapping-none f (r ∷ rs) h c =
+    either (eqb r.0 c)
+    (λ e. rw e (inr (subst (λ (x : ℕ). T (f x r.1)) (eqb→eq r.0 c (true-passes (eqb r.0 c) e)) (both_left (f r.0 r.1) (eachMapping f rs) h))))
+    (λ e. rw e (mapping-none f rs (both_right (f r.0 r.1) (eachMapping f rs) h) c))
+
+-- the decomposition of c is its mapping, or c itself where it has none
+abbrev pub orItself : ℕ → Option (List ℕ) → List ℕ
+orItself c none = c ∷ []
+orItself c (some text) = text
+
+pub mapping-decomposition : (rs : List (ℕ × List ℕ)) (c : ℕ) → orItself c (mappingOf rs c) ≡ mappingIn rs c
+unfolding mappingOf mappingIn
+mapping-decomposition [] c = refl
+mapping-decomposition (r ∷ rs) c = either (eqb r.0 c) (λ e. rw e refl) (λ e. rw e (mapping-decomposition rs c))
 
 -- the test f passes at each code point that has a class, and its class
 abbrev pub eachClass : (ℕ → ℕ → Bool) → List (ℕ × ℕ) → Bool

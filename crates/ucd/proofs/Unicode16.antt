@@ -8,11 +8,11 @@ use Prim.Native.Nat.{ℕ, ◌<◌, ◌≤◌}
 use native.Mathlib.Omega.{arith}
 use lib.Dec.{T, leb, ltb, leb→le, ltb→lt, lit≤}
 use lib.ListN.{length, length-append}
-use Rattle.ucd.specs.Table.{Atom, same, inRanges, mappingIn, classIn, member, decomposition, combiningClass, composite}
+use Rattle.ucd.specs.Table.{Atom, same, inRanges, mappingIn, mappingOf, classIn, member, mapping, decomposition, combiningClass, composite}
 use Rattle.ucd.specs.Full.{pass, passes, full, Facts}
 use Rattle.ucd.specs.Unicode16.{unicode16, ranges16, mappings16, classes16}
 use Rattle.ucd.proofs.Tests.{both_left, both_right, same-equal}
-use Rattle.ucd.proofs.Lists.{eachMapping, mapping-passes, eachClass, class-passes, eachRange, range-passes}
+use Rattle.ucd.proofs.Lists.{eachMapping, mapping-passes, mapping-none, eachClass, class-passes, eachRange, range-passes}
 use Rattle.ucd.proofs.Facts.{settled, goodMapping, good, facts, atom-full, composite-is, is-decomposition, two-not-one}
 
 -- the test that the laws of normalisation rest on
@@ -131,6 +131,15 @@ low-atom c low = go (mapping-right c)
     go : Atom unicode16 c ⊎ T (rightMapping c (decomposition unicode16 c)) → Atom unicode16 c
     go (inl one) = one
     go (inr h) = absurd (let high : 0x00C0 ≤ c = not_low c (decomposition unicode16 c) h in let z : ⊥ = omega arith in z)
+
+-- it has no mapping
+pub low-unmapped : (c : ℕ) → c < 0x00C0 → mapping unicode16 c ≡ none
+unfolding mapping decomposition unicode16
+low-unmapped c low = go (mapping-none rightMapping mappings16 mappings-right c)
+  where
+    go : (mappingOf mappings16 c ≡ none) ⊎ T (rightMapping c (mappingIn mappings16 c)) → mappingOf mappings16 c ≡ none
+    go (inl none-here) = none-here
+    go (inr h) = absurd (let high : 0x00C0 ≤ c = not_low c (mappingIn mappings16 c) h in let z : ⊥ = omega arith in z)
 
 -- a decomposition is one code point or two
 pub decomposition-cases : {P : Type 0} (c : ℕ)

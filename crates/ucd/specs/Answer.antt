@@ -1,28 +1,30 @@
 -- What the answers of the lookups mean.
 use Rattle.std.specs.Prelude.{List, [], ◌∷◌, ℕ, ◌/◌, ◌%◌, eqb}
 use Rattle.std.proofs.Math.Option.{Option, none, some}
-use Rattle.ucd.specs.Table.{decomposition, pickText, pickPoint, same}
+use Rattle.ucd.specs.Table.{decomposition, pickText, pickMapping, pickPoint, same}
 use Rattle.ucd.specs.Unicode16.{unicode16}
 use Rattle.ucd.specs.declared.Mapping.{Mapping}
 use Rattle.ucd.specs.declared.Mapping.TheVariants.{Itself, One, Two}
 use Rattle.ucd.specs.declared.Made.{Made}
 use Rattle.ucd.specs.declared.Made.TheVariants.{Point, Nothing}
 
--- the decomposition of c that a mapping says
-abbrev pub text_of : ℕ → Mapping → List ℕ
-text_of c Itself = c ∷ []
-text_of c (One a) = a ∷ []
-text_of c (Two a b) = a ∷ b ∷ []
+-- the mapping that an answer says: none, or its code points
+abbrev pub said : Mapping → Option (List ℕ)
+said Itself = none
+said (One a) = some (a ∷ [])
+said (Two a b) = some (a ∷ b ∷ [])
 
 -- the composite, if there is one
 abbrev pub point_of : Made → Option ℕ
 point_of (Point p) = some p
 point_of Nothing = none
 
--- the decomposition of c that a number of the rows stands for: 0 for none, else its first code point times 65536, plus the second, if there is one
-abbrev pub unpacked : ℕ → ℕ → List ℕ
-unpacked c n =
-    pickText (eqb n 0) (c ∷ []) (pickText (eqb (n % 65536) 0) (n / 65536 ∷ []) (n / 65536 ∷ n % 65536 ∷ []))
+-- the mapping that a number of the rows stands for: 0 for none, else its first code point times 65536, plus the second, if there is one
+abbrev pub unpackedText : ℕ → List ℕ
+unpackedText n = pickText (eqb (n % 65536) 0) (n / 65536 ∷ []) (n / 65536 ∷ n % 65536 ∷ [])
+
+abbrev pub unpacked : ℕ → Option (List ℕ)
+unpacked n = pickMapping (eqb n 0) none (some (unpackedText n))
 
 -- p, if its decomposition is a, b
 abbrev pub verified : ℕ → ℕ → ℕ → Option ℕ

@@ -32,6 +32,10 @@ abbrev pub pickPoint : Bool → Option ℕ → Option ℕ → Option ℕ
 pickPoint true a b = a
 pickPoint false a b = b
 
+abbrev pub pickMapping : Bool → Option (List ℕ) → Option (List ℕ) → Option (List ℕ)
+pickMapping true a b = a
+pickMapping false a b = b
+
 -- two texts are the same
 unfoldable pub same : List ℕ → List ℕ → Bool
 same [] [] = true
@@ -47,6 +51,10 @@ unfoldable pub mappingIn : List (ℕ × List ℕ) → ℕ → List ℕ
 mappingIn [] c = c ∷ []
 mappingIn (r ∷ rs) c = pickText (eqb r.0 c) r.1 (mappingIn rs c)
 
+unfoldable pub mappingOf : List (ℕ × List ℕ) → ℕ → Option (List ℕ)
+mappingOf [] c = none
+mappingOf (r ∷ rs) c = pickMapping (eqb r.0 c) (some r.1) (mappingOf rs c)
+
 unfoldable pub classIn : List (ℕ × ℕ) → ℕ → ℕ
 classIn [] c = 0
 classIn (r ∷ rs) c = pickNumber (eqb r.0 c) r.1 (classIn rs c)
@@ -59,6 +67,10 @@ module _ (t : Table) where
   -- c is a code point of the table
   unfoldable pub member : ℕ → Bool
   member c = inRanges t.ranges c
+
+  -- the mapping of c, if it has one
+  unfoldable pub mapping : ℕ → Option (List ℕ)
+  mapping c = mappingOf t.mappings c
 
   -- the decomposition of c: its mapping, or c itself where it has none
   unfoldable pub decomposition : ℕ → List ℕ

@@ -2,9 +2,9 @@
 #![tactic(auto)]
 
 ghost use Rattle.std.specs.Prelude.{◌≡◌};
-ghost use Rattle.ucd.specs.Table.{member, decomposition, combiningClass, composite};
+ghost use Rattle.ucd.specs.Table.{member, mapping, combiningClass, composite};
 ghost use Rattle.ucd.specs.Unicode16.{unicode16};
-ghost use Rattle.ucd.specs.Answer.{text_of, point_of};
+ghost use Rattle.ucd.specs.Answer.{said, point_of};
 
 mod table;
 
@@ -42,7 +42,7 @@ pub fn is_member(c: u32) -> bool
     c <= 0x226F
 }
 
-// What a code point decomposes to.
+// What a code point decomposes to: itself, where it has no mapping.
 #[derive(Clone, Copy)]
 pub enum Mapping {
     Itself,
@@ -50,20 +50,19 @@ pub enum Mapping {
     Two(u16, u16),
 }
 
-// The decomposition of c.
+// The mapping of c, if it has one.
 pub fn decomposition(c: u16) -> Mapping
-    ensures { text_of c result ≡ decomposition unicode16 c }
+    ensures { said result ≡ mapping unicode16 c }
 {
     if c < 0x00C0 {
         return Mapping::Itself;
     }
     let number = table::mapping_number(c);
-    if number == 0 {
-        return Mapping::Itself;
-    }
     let first = (number / 65536) as u16;
     let second = (number % 65536) as u16;
-    if second == 0 {
+    if number == 0 {
+        Mapping::Itself
+    } else if second == 0 {
         Mapping::One(first)
     } else {
         Mapping::Two(first, second)

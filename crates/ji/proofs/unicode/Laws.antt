@@ -9,9 +9,10 @@ use borrow.Author.Tests.{eq-eqb, ne_eqb}
 use lib.Dec.{T, eqb}
 use lib.ListN.{length, drop, get_or, drop_of_length-le}
 use lib.Seq.{drop-cons, drop-drop}
-use Rattle.ucd.specs.Table.{Table, All, Atom, member, decomposition, mappingIn, pickText}
+use Rattle.ucd.specs.Table.{Table, All, Atom, member, mapping, decomposition, mappingIn, pickText}
 use Rattle.ucd.specs.Full.{full, pass, passes}
-use Rattle.ucd.specs.Answer.{text_of}
+use Rattle.ucd.specs.Answer.{said}
+use Rattle.ucd.proofs.Answer.{text_of, text-told}
 use Rattle.ucd.specs.declared.Mapping.{Mapping}
 use Rattle.ucd.specs.Unicode16.{unicode16, mappings16}
 use Rattle.ucd.proofs.Unicode16.{member_below, low-atom, full-itself, full-one, full-two, full-length}
@@ -23,8 +24,8 @@ use Rattle.ji.proofs.utf8.Decoding.{drop-rest}
 
 -- ── what a code point spreads to
 -- what the lookup told of a code point is its decomposition
-pub told : (c : ℕ) {answer x : Mapping} → text_of c answer ≡ decomposition unicode16 c → answer ≡ x → decomposition unicode16 c ≡ text_of c x
-told c says is = sym says ∙ ap (text_of c) is
+pub told : (c : ℕ) {answer x : Mapping} → said answer ≡ mapping unicode16 c → answer ≡ x → decomposition unicode16 c ≡ text_of c x
+told c {answer} says is = sym (text-told unicode16 c answer says) ∙ ap (text_of c) is
 
 module _ (t : Table) where
   pub spread-nil : (d : Bool) → spread t d [] ≡ []
@@ -119,14 +120,6 @@ module _ (t : Table) where
         ∙ goes_on (get_or s i 0) (drop (suc i) s) (subst (λ (l : List ℕ). 0 < width_at l) here k) (ap (λ (l : List ℕ). member t (pointAt l)) (sym here) ∙ m)
         ∙ ap (λ (l : List ℕ). pointAt l ∷ accepted t (drop (width_at l) l)) (sym here)
         ∙ ap (λ (l : List ℕ). pointAt (drop i s) ∷ accepted t l) (drop-drop (width_at (drop i s)) i s)
-
-  pub accepted-end : (s : List ℕ) (i : ℕ) → length s ≤ i → accepted t (drop i s) ≡ []
-  unfolding accepted acceptedFrom
-  accepted-end s i h = ap (accepted t) (drop_of_length-le s h)
-
-  accepted-nil : accepted t [] ≡ []
-  unfolding accepted acceptedFrom
-  accepted-nil = refl
 
 -- the dot of o+0358 decomposes no further
 pub dot-full : full unicode16 (0x0358 ∷ []) ≡ 0x0358 ∷ []

@@ -12,9 +12,9 @@ displaced : (c : Joined-b-div32) → c.match-b-div32.displacement ≡ number_at 
 unfolding displacementNumbers
 displaced c =
     elim c.match-b-div32.branch [
-      in-24 w ↦ w.displacement-is ∙ displacement-arm c.args.b 24 w.in-24.is
-    | in-25 w ↦ w.displacement-is ∙ displacement-arm c.args.b 25 w.in-25.is
-    | in_default w ↦ w.displacement-is ∙ displacement-rest c.args.b (search rules)
+      | in-24 w ↦ w.displacement-is ∙ displacement-arm c.args.b 24 w.in-24.is
+      | in-25 w ↦ w.displacement-is ∙ displacement-arm c.args.b 25 w.in-25.is
+      | in_default w ↦ w.displacement-is ∙ displacement-rest c.args.b (search rules)
     ]
 
 pub returns-in-1 : goal.returns-in-1
