@@ -1,10 +1,11 @@
 //! The header, the Rust declarations and the Rattle source have to agree, and nothing else checks them: the linker
-//! sees names alone. Names, parameters, widths and order are compared, the fields of the reply, and the constants.
+//! sees names alone. Names, parameters, widths and order are compared, the fields of the reply, and the constants; and
+//! the contracts of the exports with those of the library that they export.
 //!
 //! Each parser takes only what these files hold. What it does not know is a failure and not passed over.
 
 use robinflint::{Kind, Mode, Refusal};
-use std::collections::BTreeMap;
+use std::collections::{BTreeMap, BTreeSet};
 use std::fs;
 use std::path::Path;
 
@@ -12,7 +13,7 @@ const HEADER: &str = "include/robinflint.h";
 const SYS: &str = "host/src/sys.rs";
 const COMPARISON: &str = "tools/compare/src/archive.rs";
 const COMPARISON_REPLY: &str = "tools/compare/src/call.rs";
-const RATTLE: &str = "crates/robinflint/src/lib.rt";
+const RATTLE: &str = "crates/robinflint_c/src/lib.rt";
 const RATTLE_REPLY: &str = "crates/robinflint/src/reply.rt";
 const RATTLE_REFUSALS: &str = "crates/ji/src/reply.rt";
 
@@ -27,6 +28,10 @@ const CALLS: [&str; 8] = [
     "rf_telex",
     "rf_tone_letter",
 ];
+
+/// What stands before the name of a function that Rattle exports, and of one of a library.
+const EXPORTED: &str = "#[unsafe(no_mangle)]\npub extern \"C\" fn ";
+const PUBLIC: &str = "pub fn ";
 
 /// Where the Rattle source has another name for a parameter than C and Rust: function, its name, theirs.
 const OTHER_NAMES: [(&str, &str, &str); 1] = [("rf_telex", "keys", "tone_keys")];
@@ -292,18 +297,26 @@ fn rust_constants(text: &str) -> Parsed<BTreeMap<String, u64>> {
 
 // ---- the Rattle source
 
-/// The exported functions, with the parameters that they have at the C boundary: a slice is a pointer and a length.
-fn rattle_functions(text: &str) -> Parsed<Functions> {
-    let exported = "#[no_mangle]\npub extern \"C\" fn ";
-    let lines = text.lines().filter(|line| !line.trim_start().starts_with("//"));
-    let code = lines.collect::<Vec<_>>().join("\n");
+/// The lines without comments.
+fn rattle_code(text: &str) -> String {
+    text.lines().filter(|line| !line.trim_start().starts_with("//")).collect::<Vec<_>>().join("\n")
+}
+
+/// What follows each `head`. A function that is exported otherwise is a failure, and in a library any that is.
+fn rattle_parts<'a>(code: &'a str, head: &'a str) -> Parsed<impl Iterator<Item = &'a str>> {
     for mark in ["no_mangle", "extern"] {
-        if code.matches(mark).count() != code.matches(exported).count() {
-            return Err(format!("{mark:?} elsewhere than in {exported:?}"));
+        let right = if head == EXPORTED { code.matches(head).count() } else { 0 };
+        if code.matches(mark).count() != right {
+            return Err(format!("{mark:?} elsewhere than in {EXPORTED:?}"));
         }
     }
+    Ok(code.split(head).skip(1))
+}
+
+/// The exported functions, with the parameters that they have at the C boundary: a slice is a pointer and a length.
+fn rattle_functions(text: &str) -> Parsed<Functions> {
     let mut functions = Functions::new();
-    for part in code.split(exported).skip(1) {
+    for part in rattle_parts(&rattle_code(text), EXPORTED)? {
         let (function, rest) = part.split_once('(').ok_or("no parameters")?;
         let (list, rest) = rest.split_once(')').ok_or("no end of the parameters")?;
         if !rest.starts_with(" -> Reply\n") {
@@ -316,6 +329,32 @@ fn rattle_functions(text: &str) -> Parsed<Functions> {
         add(&mut functions, name(function)?, parameters)?;
     }
     Ok(functions)
+}
+
+/// What stands before the body of the function behind each `head`: parameters, reply and clauses, on one line.
+fn rattle_contracts(text: &str, head: &str) -> Parsed<BTreeMap<String, String>> {
+    let mut contracts = BTreeMap::new();
+    for part in rattle_parts(&rattle_code(text), head)? {
+        let (contract, _) = part.split_once("\n{\n").ok_or("no body")?;
+        let (function, _) = contract.split_once('(').ok_or("no parameters")?;
+        let contract = plain(contract).replace("( ", "(").replace(", )", ")");
+        if contracts.insert(name(function)?, contract).is_some() {
+            return Err(format!("{function} stands there twice"));
+        }
+    }
+    Ok(contracts)
+}
+
+/// The definitions that the clauses may name, by their whole paths.
+fn rattle_imports(text: &str) -> Parsed<BTreeSet<String>> {
+    let mut imports = BTreeSet::new();
+    let code = rattle_code(text);
+    for part in code.split("ghost use ").skip(1) {
+        let (path, rest) = part.split_once(".{").ok_or("no braces")?;
+        let (list, _) = rest.split_once("};").ok_or("no end of the names")?;
+        imports.extend(items(list).map(|item| format!("{path}.{item}")));
+    }
+    Ok(imports)
 }
 
 fn rattle_parameter(text: &str) -> Parsed<Parameters> {
@@ -379,12 +418,24 @@ fn the_functions_agree() {
 
 #[test]
 fn nothing_else_is_exported() {
-    let folder = Path::new(env!("CARGO_MANIFEST_DIR")).join("../crates/robinflint/src");
+    let folder = Path::new(env!("CARGO_MANIFEST_DIR")).join("../crates/robinflint_c/src");
     for file in fs::read_dir(folder).unwrap() {
         let path = file.unwrap().path();
-        assert!(path.is_file(), "{} is not looked into", path.display());
-        let exports = fs::read_to_string(&path).unwrap().contains("no_mangle");
-        assert_eq!(exports, path.ends_with("lib.rt"), "{}", path.display());
+        assert!(path.ends_with("lib.rt"), "{} is not looked into", path.display());
+    }
+}
+
+/// An export is proved to meet its own clauses. That they are those of the library, which is what the laws speak of, is
+/// this test's to say: the same words, and each the same definition.
+#[test]
+fn the_contracts_agree() {
+    for library in ["robinflint", "workbench"] {
+        let exports = read(&format!("crates/{library}_c/src/lib.rt"));
+        let functions = read(&format!("crates/{library}/src/lib.rt"));
+        let contracts = rattle_contracts(&exports, EXPORTED).unwrap();
+        assert_eq!(contracts, rattle_contracts(&functions, PUBLIC).unwrap(), "{library}_c and {library}");
+        let (known, used) = (rattle_imports(&functions).unwrap(), rattle_imports(&exports).unwrap());
+        assert_eq!(used.difference(&known).collect::<Vec<_>>(), [""; 0], "{library}_c and {library}");
     }
 }
 
@@ -470,17 +521,40 @@ fn a_function_that_is_not_understood_is_a_failure() {
     let first = "pub extern \"C\" fn rf_strip(";
     must_fail(rattle_functions, &rattle, first, "pub(crate) extern \"C\" fn rf_strip(");
     must_fail(rattle_functions, &rattle, first, "pub fn rf_strip(");
+    must_fail(rattle_functions, &rattle, &format!("{EXPORTED}rf_strip("), first);
 }
 
 #[test]
 fn a_missing_function_and_swapped_fields_are_noticed() {
-    let (c, rust) = (read(HEADER), read(SYS));
+    let (c, rust, rattle) = (read(HEADER), read(SYS), read(RATTLE));
     let right = header(&c).unwrap();
     let gone = "rf_reply rf_tone_letter(const uint8_t *text, size_t text_len);";
     assert_ne!(header(&edited(&c, gone, "")).unwrap().functions, right.functions);
     let line = "pub fn rf_tone_letter(text: *const u8, text_len: usize) -> Reply;";
     assert_ne!(rust_functions(&edited(&rust, line, "")).unwrap(), right.functions);
+    let only_public = edited(&rattle, &format!("{EXPORTED}rf_tone_letter("), "pub fn rf_tone_letter(");
+    assert_ne!(renamed(rattle_functions(&only_public).unwrap()).unwrap(), right.functions);
     let swapped = edited(&edited(&rust, "pub tone: u64", "pub k: u64"), "pub khin: u64", "pub tone: u64");
     let swapped = edited(&swapped, "pub k: u64", "pub khin: u64");
     assert_ne!(reply_fields(&swapped).unwrap(), right.fields);
+}
+
+#[test]
+fn another_contract_is_noticed() {
+    let exports = read(RATTLE);
+    let right = rattle_contracts(&exports, EXPORTED).unwrap();
+    let other = [
+        ("ensures { replyOf result out.new ≡ fromRawCall keys.now out.old }", ""),
+        ("fromRawCall keys.now out.old", "fromRawCall keys.now out.new"),
+        ("keyingNumbered entry.now kind position", "keyingNumbered entry.now position kind"),
+        ("rf_from_raw(keys: &[u8], out: &mut [u8])", "rf_from_raw(out: &mut [u8], keys: &[u8])"),
+    ];
+    for (from, to) in other {
+        let found = rattle_contracts(&edited(&exports, from, to), EXPORTED).unwrap();
+        assert_ne!(found, right, "{to:?} is passed over");
+    }
+    let elsewhere = edited(&exports, "ji.specs.Lomaji.Strip.{stripCall}", "ji.specs.Nfd.{stripCall}");
+    let known = rattle_imports(&exports).unwrap();
+    assert!(!rattle_imports(&elsewhere).unwrap().is_subset(&known));
+    assert!(rattle_contracts(&exports, PUBLIC).is_err());
 }

@@ -23,24 +23,21 @@ use robinflint::reply;
 use robinflint::reply::Reply;
 
 // NFD of the text. Refuses with 2, 3, 4, 7.
-#[unsafe(no_mangle)]
-pub extern "C" fn wb_nfd(text: &[u8], out: &mut [u8]) -> Reply
+pub fn wb_nfd(text: &[u8], out: &mut [u8]) -> Reply
     ensures { replyOf result out.new ≡ textCall unicode16 (nfd unicode16) text.now out.old }
 {
     reply::text(nfd::to_nfd(text, out))
 }
 
 // NFC of the text. Refuses with 2, 3, 4, 7.
-#[unsafe(no_mangle)]
-pub extern "C" fn wb_nfc(text: &[u8], out: &mut [u8]) -> Reply
+pub fn wb_nfc(text: &[u8], out: &mut [u8]) -> Reply
     ensures { replyOf result out.new ≡ textCall unicode16 (nfc unicode16) text.now out.old }
 {
     reply::text(nfc::to_nfc(text, out))
 }
 
 // What `strip_khin` hands back: the length of the rest, where it begins, and whether there was a mark.
-#[unsafe(no_mangle)]
-pub extern "C" fn wb_strip_khin(text: &[u8]) -> Reply
+pub fn wb_strip_khin(text: &[u8]) -> Reply
     ensures { replyOf result [] ≡ khinCall text.now }
 {
     let rest = khin::strip_khin(text);
@@ -56,8 +53,7 @@ pub extern "C" fn wb_strip_khin(text: &[u8]) -> Reply
 }
 
 // Whether the NFD of the text has a tone letter: length 1, or 0. Refuses with 2, 3, 4.
-#[unsafe(no_mangle)]
-pub extern "C" fn wb_has_tone_letter(text: &[u8]) -> Reply
+pub fn wb_has_tone_letter(text: &[u8]) -> Reply
     ensures { replyOf result [] ≡ hasToneLetterCall unicode16 text.now }
 {
     match tone_letter::has_tone_letter(text) {
@@ -68,8 +64,7 @@ pub extern "C" fn wb_has_tone_letter(text: &[u8]) -> Reply
 }
 
 // The keys of a syllable: form 0 plain, 1 `_oo`; kind 0 detoned, 1 numeric, 2 telex. Refuses with 1, 2, 3, 4, 7.
-#[unsafe(no_mangle)]
-pub extern "C" fn wb_keys(text: &[u8], form: u64, kind: u64, out: &mut [u8]) -> Reply
+pub fn wb_keys(text: &[u8], form: u64, kind: u64, out: &mut [u8]) -> Reply
     ensures { replyOf result out.new ≡ keysCall form kind text.now out.old }
 {
     if 1 < form {
@@ -92,8 +87,7 @@ fn form_of(number: u64) -> Form
 
 // The lines of an entry's listing from number `from` on, as many as go into `out` whole: as the length how many bytes, as the count how many lines,
 // and as the position the number of the next line. An entry that is refused has one line, which says so.
-#[unsafe(no_mangle)]
-pub extern "C" fn wb_listing(entry: &[u8], from: u64, out: &mut [u8]) -> Reply
+pub fn wb_listing(entry: &[u8], from: u64, out: &mut [u8]) -> Reply
     ensures { replyOf result out.new ≡ listingCall entry.now from out.old }
 {
     let listed = listing::list(entry, from, out);
