@@ -1,5 +1,5 @@
 //! Finds librobinflint.a, or has it made: the folder ROBINFLINT_ARCHIVE, else target/staticlib of the repository,
-//! else `rt staticlib robinflint`, which proves the code and writes the archive to that place.
+//! else `tools/archive.sh robinflint`, which proves the code and writes the archive to that place.
 
 use std::env;
 use std::fs;
@@ -62,16 +62,17 @@ fn repository_folder() -> Result<PathBuf, String> {
     if folder.join(ARCHIVE).is_file() {
         return Ok(folder);
     }
-    let made = Command::new("rt").args(["staticlib", "robinflint"]).current_dir(&repository).status();
-    match made {
-        Ok(status) if status.success() && folder.join(ARCHIVE).is_file() => Ok(folder),
-        Ok(status) => Err(format!("there was no {ARCHIVE}, and `rt staticlib robinflint` ended with {status}")),
-        Err(error) => Err(format!(
-            "there is no {ARCHIVE} in {}, and `rt`, which would make it, does not start ({error}). Set \
-             ROBINFLINT_ARCHIVE to the folder that holds it, or run `rt staticlib robinflint` in the repository",
-            folder.display()
-        )),
-    }
+    let made = Command::new(repository.join("tools").join("archive.sh")).arg("robinflint").status();
+    let ended = match made {
+        Ok(status) if status.success() && folder.join(ARCHIVE).is_file() => return Ok(folder),
+        Ok(status) => format!("ended with {status}"),
+        Err(error) => format!("does not start ({error})"),
+    };
+    Err(format!(
+        "there is no {ARCHIVE} in {}, and `tools/archive.sh robinflint`, which makes it by `rt`, {ended}. Without \
+         `rt`, set ROBINFLINT_ARCHIVE to the folder that holds the archive",
+        folder.display()
+    ))
 }
 
 /// Whether the names of all functions stand in the archive: an older one would only fail in the linker, at the end
@@ -82,7 +83,7 @@ fn check_functions(archive: &Path) -> Result<(), String> {
     for name in FUNCTIONS {
         if !bytes.windows(name.len()).any(|part| part == name.as_bytes()) {
             return Err(format!(
-                "{} has no {name}: it is older than this crate. `rt staticlib robinflint` makes it anew",
+                "{} has no {name}: it is older than this crate. `tools/archive.sh robinflint` makes it anew",
                 archive.display()
             ));
         }

@@ -21,7 +21,7 @@ CARGO_TARGET_DIR=$(cd "${CARGO_TARGET_DIR:-$root/target/fuzz}" && pwd)
 export CARGO_TARGET_DIR
 built=$CARGO_TARGET_DIR/built
 archive=${ARCHIVES:-$root/target/staticlib}/librobinflint.a
-[ -f "$archive" ] || { echo "no $archive: run 'rt staticlib robinflint', or set ARCHIVES" >&2; exit 2; }
+[ -f "$archive" ] || { echo "no $archive: run 'tools/archive.sh robinflint', or set ARCHIVES" >&2; exit 2; }
 
 # Debian's packages: the compiler with libFuzzer and AddressSanitizer, the linker, python3.
 install_packages() {

@@ -6,7 +6,7 @@ set -eu
 here=$(cd "$(dirname "$0")" && pwd)
 root=$(cd "$here/../../.." && pwd)
 archive=${ROBINFLINT_ARCHIVE:-$root/target/staticlib}/librobinflint.a
-[ -f "$archive" ] || { echo "there is no $archive: run 'rt staticlib robinflint' in the repository" >&2; exit 2; }
+[ -f "$archive" ] || { echo "there is no $archive: run 'tools/archive.sh robinflint' in the repository" >&2; exit 2; }
 
 build=$(mktemp -d)
 trap 'rm -rf "$build"' EXIT
