@@ -1,13 +1,10 @@
--- What normalising code points does with its buffer, for each of its answers.
-use Rattle.std.specs.Prelude.{◌≡◌, List, ℕ, ◌/◌, ◌≤◌, ◌<◌, length}
+-- The call that normalises code points.
+use Rattle.std.specs.Prelude.{List, ℕ, length, leb}
 use Rattle.ucd.specs.Table.{Table}
-use Rattle.ji.specs.Nfd.{nfd}
 use Rattle.ji.specs.Nfc.{nfc}
-use Rattle.ji.specs.Reply.{over}
-use Rattle.ji.specs.declared.nfc.Normalised.{Normalised}
-use Rattle.ji.specs.declared.nfc.Normalised.TheVariants.{Done, NoRoom}
+use Rattle.ji.specs.Reply.{Reply, refused, pickReply, placed}
+use Rattle.ji.specs.declared.reply.Refusal.TheVariants.{TooLong}
 
--- the NFC of s stands in the buffer, where its NFD was made; or the buffer is as it was, since it has fewer than three places for a code point
-abbrev pub Normalising : Table → List ℕ → List ℕ → List ℕ → Normalised → Type 0
-Normalising t s before after (Done n) = (length s ≤ length before / 3) × (n.0 ≡ length (nfc t s)) × (after ≡ over (nfc t s) (over (nfd t s) before))
-Normalising t s before after NoRoom = (length before / 3 < length s) × (after ≡ before)
+-- 2 of a text above 1,024 code points, four times the longest text of document 01; 7 of the buffer
+abbrev pub normaliseCall : Table → List ℕ → List ℕ → Reply
+normaliseCall t s buffer = pickReply (leb (length s) 1024) (placed 0 (nfc t s) buffer) (refused TooLong buffer)

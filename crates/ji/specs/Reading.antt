@@ -5,8 +5,7 @@ use Rattle.ji.specs.Written.{Written}
 use Rattle.ji.specs.Utf8.{decode}
 use Rattle.ji.specs.Unicode.{accepted, spread}
 use Rattle.ji.specs.Nfd.{nfd}
-use Rattle.ji.specs.Reply.{over, good, bad, checkPoints, checkText}
-use Rattle.ji.specs.declared.reply.Refusal.TheVariants.{NoRoom}
+use Rattle.ji.specs.Reply.{Reply, refused, over, placed, Checked, good, bad, checkPoints, checkText}
 use Rattle.ji.specs.declared.unicode.Spread.{Spread}
 use Rattle.ji.specs.declared.unicode.Spread.TheVariants.{One, Two, Three}
 use Rattle.ji.specs.declared.unicode.Decoded.{Decoded}
@@ -24,11 +23,24 @@ Reading t decomposed s before after (Points n) = (u : List ℕ) × (checkPoints 
 Reading t decomposed s before after (Refused why) =
     (checkPoints t (decode s) ≡ bad why) × Written before after (length (spread t decomposed (accepted t s))) (spread t decomposed (accepted t s))
 
--- the same for a text as it is, of any length; one that the buffer might not hold is not read
-abbrev pub PointsReading : Table → List ℕ → List ℕ → List ℕ → Decoded → Type 0
-PointsReading t s before after answer =
-    (length s ≤ length before / 3 * 2 → Reading t false s before after answer)
-    × (length before / 3 * 2 < length s → (answer ≡ Refused NoRoom) × (after ≡ before))
+-- the same without a buffer: how many code points there are, all of them accepted
+abbrev pub Counting : Table → List ℕ → Decoded → Type 0
+Counting t s (Points n) = (u : List ℕ) × (checkPoints t (decode s) ≡ good u) × (accepted t s ≡ u) × (n.0 ≡ length u)
+Counting t s (Refused why) = checkPoints t (decode s) ≡ bad why
+
+-- ── the calls that give code points: the reply's length and buffer are in code points
+abbrev pub pointsReply : Decoded → List ℕ → Reply
+pointsReply (Points n) buffer = record { code = 0; length = n.0; count = 0; body = 0; tone = 0; khin = 0; position = 0; buffer = buffer }
+pointsReply (Refused why) buffer = refused why buffer
+
+-- the code points of a text that was checked
+abbrev pub pointsOf : Checked → List ℕ → Reply
+pointsOf (good s) buffer = placed 0 s buffer
+pointsOf (bad why) buffer = refused why buffer
+
+-- 3 and 4 of the bytes, 7 of the buffer
+abbrev pub pointsCall : Table → List ℕ → List ℕ → Reply
+pointsCall t text buffer = pointsOf (checkPoints t (decode text)) buffer
 
 -- the same for a text that is put into NFD; one that is too long is not read
 abbrev pub NfdReading : Table → List ℕ → List ℕ → List ℕ → Decoded → Type 0

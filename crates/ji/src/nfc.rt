@@ -1,14 +1,15 @@
 // Canonical composition (the Unicode Standard, 3.11, D115 and D117), of code points in their buffer, and NFC (D120).
-ghost use Rattle.std.specs.Prelude.{◌≡◌, true, false, ◌++◌, ◌≤◌, length, drop};
+ghost use Rattle.std.specs.Prelude.{◌≡◌, true, false, ◌++◌, ◌≤◌, length, drop, ◌*◌};
 ghost use Rattle.std.proofs.Math.Option.{none, some};
 ghost use Rattle.ucd.specs.Unicode16.{unicode16};
 ghost use Rattle.ji.specs.Utf8.{encode};
 ghost use Rattle.ji.specs.Reply.{placed, textCall, textReply};
-ghost use Rattle.ji.specs.Normalising.{Normalising};
+ghost use Rattle.ji.specs.Reading.{pointsReply};
+ghost use Rattle.ji.specs.Normalising.{normaliseCall};
 ghost use Rattle.ji.specs.Nfc.{pickDone, reversed, absorb, compose, nfc};
 
-use crate::reply::TextAnswer;
-use crate::unicode::{CharLen, Decoded};
+use crate::reply::{Refusal, TextAnswer};
+use crate::unicode::Decoded;
 use crate::{nfd, reply, unicode};
 
 // R1 and R2: c and the last starter of s give way to their composite, in the starter's place, unless c is blocked from it or they have none.
@@ -63,24 +64,30 @@ pub(crate) fn compose(s: &mut [u16]) -> usize
     n
 }
 
-// What normalising answers: how many code points the NFC has, or that the buffer might not hold it.
-#[derive(Clone, Copy)]
-pub enum Normalised {
-    Done(CharLen),
-    NoRoom,
+// NFC of the code points `s`, in `out`, made in `work`.
+fn normalise_in(s: &[u16], work: &mut [u16], out: &mut [u16]) -> Decoded
+    requires { 3 * length s.now ≤ length work.old }
+    ensures { pointsReply result out.new ≡ placed 0 (nfc unicode16 s.now) out.old }
+{
+    let n = unicode::decompose(s, work);
+    nfd::order(&mut work[0..n]);
+    let m = compose(&mut work[0..n]);
+    unicode::place_points(&work[0..m], out)
 }
 
-// NFC of the code points `s`, at the front of `out`. The buffer has to have three places for each, where their NFD is made.
-pub fn normalise(s: &[u16], out: &mut [u16]) -> Normalised
-    ensures { Normalising unicode16 s.now out.old out.new result }
+// NFC of the code points `s`, in `out`. Short texts are normalised in a small buffer, since clearing it is quicker.
+pub fn normalise(s: &[u16], out: &mut [u16]) -> Decoded
+    ensures { pointsReply result out.new ≡ normaliseCall unicode16 s.now out.old }
 {
-    if out.len() / 3 < s.len() {
-        return Normalised::NoRoom;
+    if s.len() <= 12 {
+        let mut work = [0u16; 36];
+        return normalise_in(s, &mut work, out);
     }
-    let n = unicode::decompose(s, out);
-    nfd::order(&mut out[0..n]);
-    let m = compose(&mut out[0..n]);
-    Normalised::Done(CharLen(m))
+    if s.len() <= 1024 {
+        let mut work = [0u16; 3072];
+        return normalise_in(s, &mut work, out);
+    }
+    Decoded::Refused(Refusal::TooLong)
 }
 
 // Composes `s`, which is in NFD, and writes it to `out`.

@@ -1,19 +1,19 @@
 // Texts of the table: read from bytes, checked and, if asked, decomposed while they are read. Lengths in bytes and in code points are two
 // types; only the UTF-8 walk turns one into the other.
-ghost use Rattle.std.specs.Prelude.{◌≡◌, [], ◌∷◌, ◌++◌, ℕ, ◌+◌, ◌*◌, ◌≤◌, length};
+ghost use Rattle.std.specs.Prelude.{◌≡◌, [], ◌∷◌, ◌++◌, ℕ, ◌+◌, ◌*◌, ◌≤◌, length, false, ◌/◌};
 ghost use Rattle.std.proofs.Math.Seq.{paste};
 ghost use Rattle.ucd.specs.Table.{decomposition};
 ghost use Rattle.ucd.specs.Unicode16.{unicode16};
-ghost use Rattle.ji.specs.Unicode.{toByteLen, spread};
+ghost use Rattle.ji.specs.Unicode.{toByteLen, spread, accepted};
 ghost use Rattle.ucd.specs.Full.{full};
 ghost use Rattle.ji.specs.Text.{allAscii};
 ghost use Rattle.ji.specs.Utf8.{decode, lastStart, lastPoint};
 ghost use Rattle.ji.specs.Written.{Written};
-ghost use Rattle.ji.specs.Reply.{checkPoints, checkWithin, verdictOf};
-ghost use Rattle.ji.specs.Reading.{spreadText, Reading, PointsReading};
+ghost use Rattle.ji.specs.Reply.{placed, checkPoints, checkWithin, verdictOf};
+ghost use Rattle.ji.specs.Reading.{spreadText, Reading, Counting, pointsReply, pointsCall};
 
 use crate::reply::Refusal;
-use crate::utf8;
+use crate::{text, utf8};
 use ucd::Mapping;
 
 // A number of bytes.
@@ -101,7 +101,7 @@ fn put(points: Spread, out: &mut [u16], at: usize) -> usize
 
 // The code points of `s`, as they are or fully decomposed, written to the front of `out`.
 pub(crate) fn decode(s: &[u8], decomposed: bool, out: &mut [u16]) -> Decoded
-    requires { 3 * length s.now ≤ 2 * length out.old }
+    requires { length (spread unicode16 decomposed (accepted unicode16 s.now)) ≤ length out.old }
     ensures { Reading unicode16 decomposed s.now out.old out.new result }
 {
     let mut i = 0;
@@ -153,41 +153,73 @@ fn widen(s: &[u8], out: &mut [u16]) -> usize
     i
 }
 
-// The code points of `text`, as they are, written to the front of `out`. The buffer has to have three places for every two bytes.
-pub fn points(text: &[u8], out: &mut [u16]) -> Decoded
-    ensures { PointsReading unicode16 text.now out.old out.new result }
+// The code points of `text`, as they are, read into a buffer of our own, which has three places for every two bytes. A text that is refused may leave
+// some there.
+pub(crate) fn read_points(text: &[u8], out: &mut [u16]) -> Decoded
+    requires { length text.now ≤ length out.old / 3 * 2 }
+    ensures { Reading unicode16 false text.now out.old out.new result }
 {
-    if out.len() / 3 * 2 < text.len() {
-        return Decoded::Refused(Refusal::NoRoom);
-    }
     if is_ascii(text) {
         return Decoded::Points(CharLen(widen(text, out)));
     }
     decode(text, false, out)
 }
 
-// Whether the bytes `s` are a text of the table, or which of the two refusals they get.
-fn check_points(s: &[u8]) -> Verdict
-    ensures { result ≡ verdictOf (checkPoints unicode16 (decode s.now)) }
+// How many code points the bytes `s` have, or which of the two refusals they get.
+fn count_points(s: &[u8]) -> Decoded
+    ensures { Counting unicode16 s.now result }
 {
     let mut i: usize = 0;
+    let mut n: usize = 0;
     while i < s.len() {
         let sequence = utf8::read(s, i);
         let width = sequence.width;
         if width == 0 {
-            return Verdict::Refused(Refusal::IllFormed);
+            return Decoded::Refused(Refusal::IllFormed);
         }
         let point = sequence.point;
         if ucd::is_member(point) {
             i += width;
+            n += 1;
         } else {
             if utf8::well_formed(s, i) {
-                return Verdict::Refused(Refusal::OutsideTable);
+                return Decoded::Refused(Refusal::OutsideTable);
             }
-            return Verdict::Refused(Refusal::IllFormed);
+            return Decoded::Refused(Refusal::IllFormed);
         }
     }
-    Verdict::Good
+    Decoded::Points(CharLen(n))
+}
+
+// The code points of `text`, as they are, in `out`. They are counted first, so that a refusal writes nothing.
+pub fn points(text: &[u8], out: &mut [u16]) -> Decoded
+    ensures { pointsReply result out.new ≡ pointsCall unicode16 text.now out.old }
+{
+    if is_ascii(text) {
+        if out.len() < text.len() {
+            return Decoded::Refused(Refusal::NoRoom);
+        }
+        return Decoded::Points(CharLen(widen(text, out)));
+    }
+    match count_points(text) {
+        Decoded::Refused(why) => Decoded::Refused(why),
+        Decoded::Points(len) => {
+            if out.len() < len.0 {
+                return Decoded::Refused(Refusal::NoRoom);
+            }
+            decode(text, false, out)
+        }
+    }
+}
+
+// Whether the bytes `s` are a text of the table, or which of the two refusals they get.
+fn check_points(s: &[u8]) -> Verdict
+    ensures { result ≡ verdictOf (checkPoints unicode16 (decode s.now)) }
+{
+    match count_points(s) {
+        Decoded::Refused(why) => Verdict::Refused(why),
+        Decoded::Points(_) => Verdict::Good,
+    }
 }
 
 // Whether `text` is a text of the table of at most `limit` bytes.
@@ -226,6 +258,16 @@ pub fn last_point(text: &[u8]) -> u16
         return point as u16;
     }
     0
+}
+
+// Writes the code points `s` to `out`, if there is room for all of them.
+pub(crate) fn place_points(s: &[u16], out: &mut [u16]) -> Decoded
+    ensures { pointsReply result out.new ≡ placed 0 s.now out.old }
+{
+    if out.len() < s.len() {
+        return Decoded::Refused(Refusal::NoRoom);
+    }
+    Decoded::Points(CharLen(text::put(s, out, 0)))
 }
 
 // The full decomposition of the code points `s`, written to the front of `out`.

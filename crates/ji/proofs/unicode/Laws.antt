@@ -121,6 +121,10 @@ module _ (t : Table) where
         ∙ ap (λ (l : List ℕ). pointAt l ∷ accepted t (drop (width_at l) l)) (sym here)
         ∙ ap (λ (l : List ℕ). pointAt (drop i s) ∷ accepted t l) (drop-drop (width_at (drop i s)) i s)
 
+  pub accepted-end : (s : List ℕ) (i : ℕ) → length s ≤ i → accepted t (drop i s) ≡ []
+  unfolding accepted acceptedFrom
+  accepted-end s i h = ap (accepted t) (drop_of_length-le s h)
+
 -- the dot of o+0358 decomposes no further
 pub dot-full : full unicode16 (0x0358 ∷ []) ≡ 0x0358 ∷ []
 unfolding full passes pass decomposition unicode16 mappingIn mappings16

@@ -6,13 +6,15 @@ use mathlib.Core.Option.{Option, none, some}
 use Prim.Native.Nat.{ℕ, zero, suc, ◌+◌, ◌-◌, ◌*◌, ◌≤◌, ◌<◌}
 use native.Mathlib.Omega.{arith}
 use native.Mathlib.Decide.{dec_le}
-use lib.ListN.{length, take, drop, get_or, length-drop}
+use lib.Dec.{eqb}
+use lib.ListN.{length, take, drop, get_or, length-drop, length-append}
+use borrow.Author.Tests.{eqb-false}
 use lib.Seq.{drop-cons, paste}
-use Rattle.ucd.specs.Table.{Table, member}
+use Rattle.ucd.specs.Table.{Table, member, pickText}
 use Rattle.ucd.specs.Unicode16.{unicode16}
 use Rattle.ji.specs.Written.{Written}
 use Rattle.ji.specs.Utf8.{width_at, pointAt, more, decode, isDecoded, bytes_of}
-use Rattle.ji.specs.Unicode.{members, accepted, spread}
+use Rattle.ji.specs.Unicode.{members, acceptedFrom, accepted, spread}
 use Rattle.ji.specs.Reply.{good, bad, pickChecked, checkPoints}
 use Rattle.ji.specs.Reading.{Reading}
 use Rattle.ji.specs.declared.reply.Refusal.TheVariants.{IllFormed, OutsideTable}
@@ -45,12 +47,38 @@ take-most zero s = omega arith
 take-most (suc n) [] = omega arith
 take-most (suc n) (x ∷ s) = omega (arith, take-most n s)
 
-pub spread-room : (d : Bool) (s : List ℕ) (i : ℕ) → i < length s → 0 < width_at (drop i s) → 2 * length (spread unicode16 d (pointAt (drop i s) ∷ [])) ≤ 3 * width_at (drop i s)
-spread-room d s i h k =
-    let e = drop-cons s i 0 h in
-    let b = bytes_back (get_or s i 0) (drop (suc i) s) (subst (λ (l : List ℕ). 0 < width_at l) e k) in
-    let f : bytes_of (pointAt (drop i s)) ≡ take (width_at (drop i s)) (drop i s) = subst (λ (l : List ℕ). bytes_of (pointAt l) ≡ take (width_at l) l) (sym e) b in
-    omega (arith, spread-bytes d (pointAt (drop i s)), ap length f, take-most (width_at (drop i s)) (drop i s))
+spread-first : (d : Bool) (b : ℕ) (s : List ℕ) → 0 < width_at (b ∷ s) → 2 * length (spread unicode16 d (pointAt (b ∷ s) ∷ [])) ≤ 3 * width_at (b ∷ s)
+spread-first d b s k =
+    omega (arith, spread-bytes d (pointAt (b ∷ s)), ap length (bytes_back b s k), take-most (width_at (b ∷ s)) (b ∷ s))
+
+-- a text or no text has few code points where each of the two has
+few-picked : (d b : Bool) (u v : List ℕ) (n : ℕ) → (b ≡ true → 2 * length (spread unicode16 d u) ≤ n) → (b ≡ false → 2 * length (spread unicode16 d v) ≤ n)
+    → 2 * length (spread unicode16 d (pickText b u v)) ≤ n
+few-picked d true u v n f g = f refl
+few-picked d false u v n f g = g refl
+
+few-none : (d : Bool) (n : ℕ) → 2 * length (spread unicode16 d []) ≤ n
+few-none d n = omega (arith, ap length (spread-nil unicode16 d))
+
+accepted-few : (d : Bool) (skip : ℕ) (s : List ℕ) → 2 * length (spread unicode16 d (acceptedFrom unicode16 skip s)) ≤ 3 * length (drop skip s)
+unfolding acceptedFrom
+accepted-few d skip [] = few-none d _
+accepted-few d zero (b ∷ s) =
+    few-picked d (eqb (width_at (b ∷ s)) 0) [] _ _ (λ e. few-none d _)
+    (λ e.
+    let k : 0 < width_at (b ∷ s) = let ne = eqb-false (width_at (b ∷ s)) 0 e in omega arith in
+    few-picked d (member unicode16 (pointAt (b ∷ s))) _ [] _
+    (λ m.
+    omega (arith,
+    ap length (spread-append unicode16 d (pointAt (b ∷ s) ∷ []) (acceptedFrom unicode16 (width_at (b ∷ s) - 1) s)),
+    length-append (spread unicode16 d (pointAt (b ∷ s) ∷ [])) (spread unicode16 d (acceptedFrom unicode16 (width_at (b ∷ s) - 1) s)),
+    spread-first d b s k, accepted-few d (width_at (b ∷ s) - 1) s, width-length (b ∷ s), length-drop (width_at (b ∷ s) - 1) s))
+    (λ m. few-none d _))
+accepted-few d (suc skip) (b ∷ s) = accepted-few d skip s
+
+pub spread-room : (d : Bool) (s : List ℕ) → 2 * length (spread unicode16 d (accepted unicode16 s)) ≤ 3 * length s
+unfolding accepted
+spread-room d s = accepted-few d 0 s
 
 -- no sequence reaches past the end
 pub width-within : (s : List ℕ) (i : ℕ) → i < length s → i + width_at (drop i s) ≤ length s
@@ -130,12 +158,11 @@ module _ (t : Table) (s : List ℕ) where
 pub record Read (t : Table) (d : Bool) (s before after : List ℕ) (i n : ℕ) : Type 0 where
   pub taken : List ℕ
   pub text : Taken t s taken i
-  pub short : 2 * n ≤ 3 * i
   pub written : Written before after n (spread t d taken)
 
 module _ (t : Table) (d : Bool) (s before : List ℕ) where
   pub read-start : Read t d s before before 0 0
-  read-start = record { taken = []; text = taken_start t s; short = omega arith; written = rw (spread-nil t d) (written_none before) }
+  read-start = record { taken = []; text = taken_start t s; written = rw (spread-nil t d) (written_none before) }
 
   module _ (after : List ℕ) (i n : ℕ) (r : Read t d s before after i n) where
     -- the buffer of a text that is refused here
@@ -162,13 +189,21 @@ module _ (t : Table) (d : Bool) (s before : List ℕ) where
           abbrev p : ℕ
           p = pointAt (drop i s)
 
-          pub read_more : 2 * length (spread t d (p ∷ [])) ≤ 3 * width_at (drop i s) → n + length (spread t d (p ∷ [])) ≤ length before
+          -- what is accepted of the whole text has it behind what was taken
+          pub read-room : length (spread t d (accepted t s)) ≤ length before → n + length (spread t d (p ∷ [])) ≤ length before
+          read-room room =
+              let rest = accepted t (drop (i + width_at (drop i s)) s) in
+              let all : spread t d (accepted t s) ≡ spread t d r.taken ++ (spread t d (p ∷ []) ++ spread t d rest) =
+                  ap (spread t d) (r.text.stops ∙ ap (λ (l : List ℕ). r.taken ++ l) (accepted-at t s i h k m))
+                  ∙ spread-append t d r.taken (p ∷ rest)
+                  ∙ ap (λ (l : List ℕ). spread t d r.taken ++ l) (spread-append t d (p ∷ []) rest) in
+              omega (arith, room, ap length all, length-append (spread t d r.taken) (spread t d (p ∷ []) ++ spread t d rest), length-append (spread t d (p ∷ [])) (spread t d rest), r.written.size)
+
+          pub read_more : n + length (spread t d (p ∷ [])) ≤ length before
               → Read t d s before (paste after n (spread t d (p ∷ [])) (length (spread t d (p ∷ [])))) (i + width_at (drop i s)) (n + length (spread t d (p ∷ [])))
-          read_more few room =
-              let q = r.short in
+          read_more room =
               record {
                 taken = r.taken ++ (p ∷ []);
                 text = taken_more t s r.taken i r.text h k m;
-                short = omega arith;
                 written = rw (spread-append t d r.taken (p ∷ [])) (written-run r.written (spread t d (p ∷ [])) room);
               }

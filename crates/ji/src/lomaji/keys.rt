@@ -144,7 +144,7 @@ fn respell_bytes(
     requires { (length stripped.now ≤ length points.old / 3 * 2) × (2 * length stripped.now < length letters.old) }
     ensures { (rest : List ℕ) → members unicode16 rest ≡ true → stripped.now ≡ encode rest → Written letters.old letters.new result (respell (rulesOf form) rest ++ keyText key) }
 {
-    match unicode::points(stripped, points) {
+    match unicode::read_points(stripped, points) {
         Decoded::Refused(_) => 0,
         Decoded::Points(len) => {
             let n = len.0;

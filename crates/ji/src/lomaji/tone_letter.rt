@@ -305,7 +305,7 @@ fn letter_by(text: &[u8], points: &mut [u16]) -> ToneLetter
     requires { (length text.now ≤ 256) × (length text.now ≤ length points.old / 3 * 2) × (length points.old ≤ 65536) }
     ensures { toneLetterReply result ≡ toneLetterCall unicode16 text.now }
 {
-    match unicode::points(text, points) {
+    match unicode::read_points(text, points) {
         Decoded::Refused(why) => ToneLetter::Refused(why),
         Decoded::Points(len) => {
             let n = len.0;

@@ -1,3 +1,4 @@
+use Rattle.ji.proofs.unicode.Reader.{spread-room}
 use mathlib.Core.Bool.{true}
 use Rattle.ucd.specs.Unicode16.{unicode16}
 use Rattle.ji.proofs.Writing.{written-length}
@@ -22,3 +23,6 @@ pub returns-in-Points : goal.returns-in-Points
 returns-in-Points c =
     let a = c.args in
     nfd-ordered unicode16 a.text.now a.points.now _ c.if-text-gt256.false _ _ (told unicode16 _ _ _ true c.in-Points.is c.decode.ensures) c.order.ensures
+
+pub decode-requires : goal.decode-requires
+decode-requires c = omega (arith, spread-room true c.args.text.now, c.requires)

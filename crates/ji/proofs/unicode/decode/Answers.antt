@@ -9,14 +9,14 @@ use Rattle.ucd.specs.Table.{member}
 use Rattle.ucd.specs.Unicode16.{unicode16}
 use Rattle.ucd.proofs.Unicode16.{member_below}
 use Rattle.ji.specs.Utf8.{width_at, pointAt, ReadOf, decode, isDecoded}
-use Rattle.ji.specs.Unicode.{spread}
+use Rattle.ji.specs.Unicode.{accepted, spread}
 use Rattle.ji.specs.Reading.{spreadText, Reading}
 use Rattle.ji.specs.declared.reply.Refusal.TheVariants.{IllFormed, OutsideTable}
 use Rattle.ji.specs.declared.unicode.Spread.{Spread}
 use Rattle.ji.specs.declared.unicode.Decoded.TheVariants.{Refused}
 use Rattle.ji.proofs.Writing.{written-length}
 use Rattle.ji.proofs.utf8.Decoding.{width-most}
-use Rattle.ji.proofs.unicode.Reader.{spread-room, width-within, Read, read-start, read-end, read-ill, read-outside, read-outside-ill, read_more}
+use Rattle.ji.proofs.unicode.Reader.{Read, read-start, read-end, read-ill, read-outside, read-outside-ill, read-room, read_more}
 use native.Mathlib.Omega.{arith}
 use Rattle.ji.proofs.unicode.decode.Goals as goal
 
@@ -53,22 +53,19 @@ module _ (d : Bool) (s before out : List ℕ) (i n w p : ℕ) (r : Read unicode1
     low : p < 0xD800
     low = member_below p (subst T m tt)
 
-    module _ (x : Spread) (e : spreadText x ≡ spread unicode16 d (p ∷ [])) (room : 3 * length s ≤ 2 * length before) where
+    module _ (x : Spread) (e : spreadText x ≡ spread unicode16 d (p ∷ [])) (room : length (spread unicode16 d (accepted unicode16 s)) ≤ length before) where
       same_text : spread unicode16 d (pointAt (drop i s) ∷ []) ≡ spreadText x
       same_text = ap (λ (k : ℕ). spread unicode16 d (k ∷ [])) (sym point) ∙ sym e
 
-      few : 2 * length (spread unicode16 d (pointAt (drop i s) ∷ [])) ≤ 3 * width_at (drop i s)
-      few = spread-room d s i h positive
-
       enough : n + length (spread unicode16 d (pointAt (drop i s) ∷ [])) ≤ length before
-      enough = let k = r.short in omega (arith, few, width-within s i h)
+      enough = read-room unicode16 d s before out i n r h positive inside room
 
       room-left : n + length (spreadText x) ≤ length out
       room-left = rw (written-length r.written, ← same_text) enough
 
       again : (m' : ℕ) (out' : List ℕ) → m' ≡ n + length (spreadText x) → out' ≡ paste out n (spreadText x) (length (spreadText x)) → Read unicode16 d s before out' (i + w) m'
       again m' out' em eo =
-          rw (em, eo, wide, ← same_text) (read_more unicode16 d s before out i n r h positive inside few enough)
+          rw (em, eo, wide, ← same_text) (read_more unicode16 d s before out i n r h positive inside enough)
 
 pub loop-i-init : goal.loop-i-init
 loop-i-init c = let a = c.args in read-start unicode16 a.decomposed a.s.now a.out.now

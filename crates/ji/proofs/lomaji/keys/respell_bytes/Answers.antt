@@ -19,20 +19,20 @@ use Rattle.ji.proofs.unicode.Checked.{bytes_good, points-passed, good-same, good
 use Rattle.ji.proofs.lomaji.keys.Laws.{respell-length, key-length}
 use native.Mathlib.Omega.{arith}
 use Rattle.ji.proofs.lomaji.keys.respell_bytes.Goals as goal
-use Rattle.ji.proofs.lomaji.keys.respell_bytes.Goals.{After-points}
+use Rattle.ji.proofs.lomaji.keys.respell_bytes.Goals.{After-read_points}
 
 -- the code points were read
-module _ (c : After-points) where
+module _ (c : After-read_points) where
   abbrev bytes : List ℕ
   bytes = c.args.stripped.now
 
   abbrev after : List ℕ
-  after = c.points.new.out
+  after = c.read_points.new.out
 
-  reading : Reading unicode16 false bytes c.args.points.now after c.points.result
-  reading = c.points.ensures.0 c.requires.0
+  reading : Reading unicode16 false bytes c.args.points.now after c.read_points.result
+  reading = c.read_points.ensures
 
-  module _ (len : CharLen) (is : c.points.result ≡ Points len) where
+  module _ (len : CharLen) (is : c.read_points.result ≡ Points len) where
     abbrev u : List ℕ
     u = (told unicode16 bytes c.args.points.now after false is reading).0
 
@@ -54,29 +54,29 @@ module _ (c : After-points) where
 
 pub slice_bounds-respell-end : goal.slice_bounds-respell-end
 slice_bounds-respell-end c =
-    let w = read (goal.at.slice_bounds-respell-end c).After-points c.in-Points.len c.in-Points.is in
+    let w = read (goal.at.slice_bounds-respell-end c).After-read_points c.in-Points.len c.in-Points.is in
     omega (arith, w.fits, written-length w)
 
 pub respell-m-requires : goal.respell-m-requires
 respell-m-requires c =
-    let h = letters-few (goal.at.respell-m-requires c).After-points c.in-Points.len c.in-Points.is in
+    let h = letters-few (goal.at.respell-m-requires c).After-read_points c.in-Points.len c.in-Points.is in
     omega (arith, h)
 
 pub put_key-requires : goal.put_key-requires
 put_key-requires c =
     let v = c.respell-m.ensures.1 in
-    rw (written-length v) (key-room (goal.at.put_key-requires c).After-points c.in-Points.len c.in-Points.is _ _ v)
+    rw (written-length v) (key-room (goal.at.put_key-requires c).After-read_points c.in-Points.len c.in-Points.is _ _ v)
 
 pub returns-in-Refused : goal.returns-in-Refused
 returns-in-Refused c =
     λ rest inside is.
-    absurd (good-not-bad (sym (bytes_good _ rest inside is) ∙ (told unicode16 _ _ _ false c.in-Refused.is (reading (goal.at.returns-in-Refused c).After-points)).0))
+    absurd (good-not-bad (sym (bytes_good _ rest inside is) ∙ (told unicode16 _ _ _ false c.in-Refused.is (reading (goal.at.returns-in-Refused c).After-read_points)).0))
 
 pub returns-in-Points : goal.returns-in-Points
 returns-in-Points c =
     λ rest inside is.
     let v = c.respell-m.ensures.1 in
-    let same : take (c.in-Points.len.0 - 0) c.points.new.out ≡ rest = front (read (goal.at.returns-in-Points c).After-points c.in-Points.len c.in-Points.is) ∙ good-same (sym (passes (goal.at.returns-in-Points c).After-points c.in-Points.len c.in-Points.is) ∙ bytes_good _ rest inside is) in
+    let same : take (c.in-Points.len.0 - 0) c.read_points.new.out ≡ rest = front (read (goal.at.returns-in-Points c).After-read_points c.in-Points.len c.in-Points.is) ∙ good-same (sym (passes (goal.at.returns-in-Points c).After-read_points c.in-Points.len c.in-Points.is) ∙ bytes_good _ rest inside is) in
     let f = c.args.form in
     let w = subst (λ (s : List ℕ). Written c.args.letters.now c.respell-m.new.out c.respell-m.result (respell (rulesOf f) s)) same v in
-    rw (c.put_key.ensures.0, c.put_key.ensures.1) (written-run w (keyText c.args.key) (key-room (goal.at.returns-in-Points c).After-points c.in-Points.len c.in-Points.is _ _ v))
+    rw (c.put_key.ensures.0, c.put_key.ensures.1) (written-run w (keyText c.args.key) (key-room (goal.at.returns-in-Points c).After-read_points c.in-Points.len c.in-Points.is _ _ v))

@@ -1,3 +1,4 @@
+use Rattle.ji.proofs.unicode.Reader.{spread-room}
 use mathlib.Core.Path.{◌≡◌, ap, ◌∙◌, subst}
 use mathlib.Core.Bool.{true}
 use mathlib.Core.List.{List}
@@ -43,3 +44,6 @@ returns-in-Points c =
     c.finish.ensures
     ∙ ap (λ (s : List ℕ). strippedReply (order unicode16 s) c.args.out.now) (front _ _ _ _ h.2)
     ∙ strip-good unicode16 c.args.text.now c.args.out.now h.0 (check-within unicode16 c.args.text.now c.requires.0 ∙ h.1)
+
+pub decode-requires : goal.decode-requires
+decode-requires c = omega (arith, spread-room true c.args.text.now, c.requires)

@@ -12,30 +12,30 @@ use Rattle.ji.proofs.Readings.{front, told}
 use Rattle.ji.proofs.lomaji.tone_letter.Laws.{letter-refused, letter-good}
 use native.Mathlib.Omega.{arith}
 use Rattle.ji.proofs.lomaji.tone_letter.letter_by.Goals as goal
-use Rattle.ji.proofs.lomaji.tone_letter.letter_by.Goals.{After-points}
+use Rattle.ji.proofs.lomaji.tone_letter.letter_by.Goals.{After-read_points}
 
 -- the text was read
-module _ (c : After-points) where
-  reading : Reading unicode16 false c.args.text.now c.args.points.now c.points.new.out c.points.result
-  reading = c.points.ensures.0 c.requires.1
+module _ (c : After-read_points) where
+  reading : Reading unicode16 false c.args.text.now c.args.points.now c.read_points.new.out c.read_points.result
+  reading = c.read_points.ensures
 
 pub slice_bounds-letter_in-end : goal.slice_bounds-letter_in-end
 slice_bounds-letter_in-end c =
-    let w = (told unicode16 _ _ _ false c.in-Points.is (reading (goal.at.slice_bounds-letter_in-end c).After-points)).2 in
+    let w = (told unicode16 _ _ _ false c.in-Points.is (reading (goal.at.slice_bounds-letter_in-end c).After-read_points)).2 in
     omega (arith, w.fits, written-length w)
 
 pub letter_in-requires : goal.letter_in-requires
 letter_in-requires c =
-    let w = (told unicode16 _ _ _ false c.in-Points.is (reading (goal.at.letter_in-requires c).After-points)).2 in
+    let w = (told unicode16 _ _ _ false c.in-Points.is (reading (goal.at.letter_in-requires c).After-read_points)).2 in
     let few = c.requires.2 in
     rw (front w, w.size) (omega (arith, w.fits, few))
 
 pub returns-in-Refused : goal.returns-in-Refused
 returns-in-Refused c =
-    letter-refused unicode16 c.args.text.now _ (check-within unicode16 c.args.text.now c.requires.0 ∙ (told unicode16 _ _ _ false c.in-Refused.is (reading (goal.at.returns-in-Refused c).After-points)).0)
+    letter-refused unicode16 c.args.text.now _ (check-within unicode16 c.args.text.now c.requires.0 ∙ (told unicode16 _ _ _ false c.in-Refused.is (reading (goal.at.returns-in-Refused c).After-read_points)).0)
 
 pub returns-in-Points : goal.returns-in-Points
 unfolding spread
 returns-in-Points c =
-    let h = told unicode16 _ _ _ false c.in-Points.is (reading (goal.at.returns-in-Points c).After-points) in
+    let h = told unicode16 _ _ _ false c.in-Points.is (reading (goal.at.returns-in-Points c).After-read_points) in
     c.letter_in.ensures ∙ ap (λ (s : List ℕ). letterAt s (toneLetter s)) (front h.2) ∙ letter-good unicode16 c.args.text.now h.0 (check-within unicode16 c.args.text.now c.requires.0 ∙ h.1)

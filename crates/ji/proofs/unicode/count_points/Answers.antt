@@ -1,19 +1,17 @@
-use mathlib.Core.Path.{◌≡◌, sym, ap, ◌∙◌}
+use mathlib.Core.Path.{◌≡◌, refl, sym, ap, ◌∙◌}
 use mathlib.Core.Bool.{Bool, true, false}
 use mathlib.Core.List.{List, [], ◌∷◌, ◌++◌}
 use Prim.Native.Nat.{ℕ, ◌+◌, ◌-◌, ◌≤◌, ◌<◌}
-use lib.ListN.{drop}
+use lib.ListN.{length, drop, length-append}
 use Rattle.ucd.specs.Table.{member}
 use Rattle.ucd.specs.Unicode16.{unicode16}
 use Rattle.ji.specs.Utf8.{width_at, pointAt, ReadOf}
-use Rattle.ji.specs.Reply.{Checked, verdictOf}
+use Rattle.ji.specs.Unicode.{accepted}
 use Rattle.ji.proofs.utf8.Decoding.{width-most}
-use Rattle.ji.proofs.unicode.Reader.{taken_start, taken-end, taken-ill, taken-outside, taken-outside-ill, taken_more}
+use Rattle.ji.proofs.unicode.Laws.{accepted-end}
+use Rattle.ji.proofs.unicode.Reader.{taken_start, taken-end, taken-all, taken-ill, taken-outside, taken-outside-ill, taken_more}
 use native.Mathlib.Omega.{arith}
-use Rattle.ji.proofs.unicode.check_points.Goals as goal
-
-verdict : {k m : Checked} → k ≡ m → verdictOf m ≡ verdictOf k
-verdict e = ap verdictOf (sym e)
+use Rattle.ji.proofs.unicode.count_points.Goals as goal
 
 -- a turn that reads a sequence of width w and code point p
 module _ (s : List ℕ) (i w p : ℕ) (q : ReadOf (drop i s) w p) (some : w ≡ 0 → ⊥) where
@@ -27,12 +25,12 @@ module _ (s : List ℕ) (i w p : ℕ) (q : ReadOf (drop i s) w p) (some : w ≡ 
   told b e = ap (member unicode16) (sym (q.read (omega (arith, some)))) ∙ sym e
 
 pub loop-i-init : goal.loop-i-init
-loop-i-init c = let a = c.args in ([], taken_start unicode16 a.s.now)
+loop-i-init c = let a = c.args in ([], taken_start unicode16 a.s.now, refl, omega arith)
 
 pub returns-then-width-eq0 : goal.returns-then-width-eq0
 returns-then-width-eq0 c =
     let a = c.args in
-    verdict (taken-ill unicode16 a.s.now c.loop-i.invariant.0 c.loop-i.i c.loop-i.invariant.1 c.loop-i-test.true (sym c.read-sequence.ensures.wide ∙ c.if-width-eq0.true))
+    taken-ill unicode16 a.s.now c.loop-i.invariant.0 c.loop-i.i c.loop-i.invariant.1 c.loop-i-test.true (sym c.read-sequence.ensures.wide ∙ c.if-width-eq0.true)
 
 pub overflow_add-i : goal.overflow_add-i
 overflow_add-i c =
@@ -51,6 +49,8 @@ loop-i-preserved c =
     let inside = told a l.i _ _ r some true (sym c.if-is_member.true ∙ c.is_member.ensures) in (
       l.invariant.0 ++ (pointAt (drop l.i a) ∷ []),
       rw r.wide (taken_more unicode16 a l.invariant.0 l.i l.invariant.1 c.loop-i-test.true (positive a l.i _ _ r some) inside),
+      omega (arith, l.invariant.2, length-append l.invariant.0 (pointAt (drop l.i a) ∷ [])),
+      omega (arith, l.invariant.3, some),
     )
 
 pub returns-then-well_formed : goal.returns-then-well_formed
@@ -60,7 +60,7 @@ returns-then-well_formed c =
     let r = c.read-sequence.ensures in
     let some = c.if-width-eq0.false in
     let outside = told a l.i _ _ r some false (sym c.if-is_member.false ∙ c.is_member.ensures) in
-    verdict (taken-outside unicode16 a l.invariant.0 l.i l.invariant.1 c.loop-i-test.true (positive a l.i _ _ r some) outside (sym c.well_formed-else-is_member.ensures ∙ c.if-well_formed.true))
+    taken-outside unicode16 a l.invariant.0 l.i l.invariant.1 c.loop-i-test.true (positive a l.i _ _ r some) outside (sym c.well_formed-else-is_member.ensures ∙ c.if-well_formed.true)
 
 pub returns-else-is_member : goal.returns-else-is_member
 returns-else-is_member c =
@@ -69,9 +69,16 @@ returns-else-is_member c =
     let r = c.read-sequence.ensures in
     let some = c.if-width-eq0.false in
     let outside = told a l.i _ _ r some false (sym c.if-is_member.false ∙ c.is_member.ensures) in
-    verdict (taken-outside-ill unicode16 a l.invariant.0 l.i l.invariant.1 c.loop-i-test.true (positive a l.i _ _ r some) outside (sym c.well_formed-else-is_member.ensures ∙ c.if-well_formed.false))
+    taken-outside-ill unicode16 a l.invariant.0 l.i l.invariant.1 c.loop-i-test.true (positive a l.i _ _ r some) outside (sym c.well_formed-else-is_member.ensures ∙ c.if-well_formed.false)
 
 pub returns : goal.returns
 returns c =
     let a = c.args in
-    verdict (taken-end unicode16 a.s.now c.loop-i.invariant.0 c.loop-i.i c.loop-i.invariant.1 c.loop-i-test.false)
+    let l = c.loop-i in
+    let good-text = taken-end unicode16 a.s.now l.invariant.0 l.i l.invariant.1 c.loop-i-test.false in
+    let all : accepted unicode16 a.s.now ≡ l.invariant.0 =
+        taken-all unicode16 a.s.now l.invariant.0 l.i l.invariant.1 (accepted-end unicode16 a.s.now l.i c.loop-i-test.false) in
+    (l.invariant.0, good-text, all, sym l.invariant.2)
+
+pub overflow_add-n : goal.overflow_add-n
+overflow_add-n c = omega (arith, c.loop-i.invariant.3)

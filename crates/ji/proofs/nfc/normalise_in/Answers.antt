@@ -2,7 +2,7 @@ use mathlib.Core.Path.{◌≡◌, refl, sym, ap, ◌∙◌, subst}
 use mathlib.Core.List.{List, ◌++◌, append_assoc}
 use Prim.Native.Nat.{ℕ, ◌-◌}
 use lib.ListN.{length, take, drop}
-use lib.Seq.{drop-append-le}
+use lib.Seq.{drop-append-le, take-append_seam}
 use native.Mathlib.Nat.{sub-zero}
 use Rattle.ucd.specs.Table.{Table}
 use Rattle.ucd.specs.Full.{full}
@@ -10,12 +10,12 @@ use Rattle.ucd.specs.Unicode16.{unicode16}
 use Rattle.ji.specs.Written.{Written}
 use Rattle.ji.specs.Nfd.{order, nfd}
 use Rattle.ji.specs.Nfc.{compose, nfc}
-use Rattle.ji.specs.Reply.{over}
+use Rattle.ji.specs.Reply.{over, placed}
 use Rattle.ji.proofs.Order.{order-length}
 use Rattle.ji.proofs.Writing.{written_from, written-drop, written_over}
 use Rattle.ji.proofs.Readings.{front}
 use native.Mathlib.Omega.{arith}
-use Rattle.ji.proofs.nfc.normalise.Goals as goal
+use Rattle.ji.proofs.nfc.normalise_in.Goals as goal
 
 abbrev t : Table
 t = unicode16
@@ -63,5 +63,7 @@ returns c =
     let d = c.decompose-n in
     let o = c.order in
     let k = c.compose-m in
-    let r = normalised a.s.now a.out.now d.new.out d.result d.ensures o.new.s o.ensures k.result k.new.s k.ensures.0 k.ensures.1 k.auto.s in
-    (omega arith, r.0, r.1)
+    let r = normalised a.s.now a.work.now d.new.out d.result d.ensures o.new.s o.ensures k.result k.new.s k.ensures.0 k.ensures.1 k.auto.s in
+    c.place_points.ensures
+    ∙ ap (λ (u : List ℕ). placed 0 u a.out.now)
+    (rw (r.1, r.0, sub-zero (length (nfc t a.s.now))) (take-append_seam (nfc t a.s.now) (drop (length (nfc t a.s.now)) (over (nfd t a.s.now) a.work.now))))
