@@ -10,6 +10,8 @@ pub mod Composition
 pub mod ComposeLoops
 pub mod Decomposition
 pub mod Normalisation
+pub mod Normalised
+pub mod Points
 pub mod Finished
 pub mod Closure
 pub mod CanonicalExamples

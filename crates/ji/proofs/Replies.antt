@@ -28,7 +28,7 @@ module _ (tone : ℕ) (output buffer : List ℕ) where
   pub placed-not : length buffer < length output → refused NoRoom buffer ≡ placed tone output buffer
   placed-not h = sym (ap (λ (b : Bool). pickReply b (answered tone output buffer) (refused NoRoom buffer)) (lt-leb (length output) (length buffer) h))
 
-  placed-whole : length output ≤ length buffer → answered tone output buffer ≡ placed tone output buffer
+  pub placed-whole : length output ≤ length buffer → answered tone output buffer ≡ placed tone output buffer
   placed-whole h = sym (ap (λ (b : Bool). pickReply b (answered tone output buffer) (refused NoRoom buffer)) (le-leb (length output) (length buffer) h))
 
   -- what a writer left in the buffer is the answer

@@ -432,7 +432,7 @@ fn compose_in(
     points: &mut [u16],
     out: &mut [u8],
 ) -> TextAnswer
-    requires { (key ≤ 0x7F) × (n < length bytes.old) × (n ≤ length points.old / 3 * 2) × (n + 2 < length points.old) × RestIn bytes.old n }
+    requires { (key ≤ 0x7F) × (n < length bytes.old) × (n ≤ length points.old) × (n + 2 < length points.old) × RestIn bytes.old n }
     ensures { (h : RestIn bytes.old n) → textReply result out.new ≡ placed 0 (encode (composedOf unicode16 k key tone h.rest)) out.old }
 {
     match unicode::points(&bytes[0..n], points) {
@@ -457,7 +457,7 @@ fn finish(
     points: &mut [u16],
     out: &mut [u8],
 ) -> TextAnswer
-    requires { (key ≤ 0x7F) × (n + 1 < length bytes.old) × (n ≤ length points.old / 3 * 2) × (n + 2 < length points.old) × RestIn bytes.old n }
+    requires { (key ≤ 0x7F) × (n + 1 < length bytes.old) × (n ≤ length points.old) × (n + 2 < length points.old) × RestIn bytes.old n }
     ensures { (h : RestIn bytes.old n) → textReply result out.new ≡ placed 0 (encode (edited unicode16 k edit key tone h.rest)) out.old }
 {
     match edit {
@@ -502,7 +502,7 @@ fn step_in(
     points: &mut [u16],
     out: &mut [u8],
 ) -> TextAnswer
-    requires { (key ≤ 0x7F) × (length text.now ≤ 256) × (5 * length text.now + 4 ≤ 2 * length bytes.old) × (length bytes.old ≤ length points.old / 3 * 2) × (length bytes.old + 1 < length points.old) }
+    requires { (key ≤ 0x7F) × (length text.now ≤ 256) × (5 * length text.now + 4 ≤ 2 * length bytes.old) × (length bytes.old ≤ length points.old) × (length bytes.old + 1 < length points.old) }
     ensures { textReply result out.new ≡ textCall unicode16 (step_of unicode16 k key) text.now out.old }
 {
     let mut n = text.len();
@@ -533,7 +533,7 @@ fn step_short(k: ToneKeys, key: u8, text: &[u8], out: &mut [u8]) -> TextAnswer
     ensures { textReply result out.new ≡ textCall unicode16 (step_of unicode16 k key) text.now out.old }
 {
     let mut bytes = [0u8; 22];
-    let mut points = [0u16; 33];
+    let mut points = [0u16; 24];
     step_in(k, key, text, &mut bytes, &mut points, out)
 }
 
@@ -543,7 +543,7 @@ fn step_long(k: ToneKeys, key: u8, text: &[u8], out: &mut [u8]) -> TextAnswer
     ensures { textReply result out.new ≡ textCall unicode16 (step_of unicode16 k key) text.now out.old }
 {
     let mut bytes = [0u8; 642];
-    let mut points = [0u16; 963];
+    let mut points = [0u16; 644];
     step_in(k, key, text, &mut bytes, &mut points, out)
 }
 

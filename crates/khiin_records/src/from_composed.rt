@@ -188,7 +188,7 @@ fn candidate_of(
     position: u64,
     out: &mut [u8],
 ) -> Recorded
-    requires { (length stripped.now ≤ length points.old / 3 * 2) × (2 * length points.old + 2 ≤ length letters.old) }
+    requires { (length stripped.now ≤ length points.old) × (2 * length points.old + 2 ≤ length letters.old) }
     ensures { (u : List ℕ) → members unicode16 u ≡ true → stripped.now ≡ encode u
         → recordReply result out.new ≡ candidateIn (candidatesOf tone (khinIn u) (withoutKhin u)) position out.old }
 {
@@ -209,8 +209,8 @@ fn candidate_points(stripped: &[u8], tone: Tone, position: u64, out: &mut [u8]) 
     ensures { (u : List ℕ) → members unicode16 u ≡ true → stripped.now ≡ encode u
         → recordReply result out.new ≡ candidateIn (candidatesOf tone (khinIn u) (withoutKhin u)) position out.old }
 {
-    let mut points = [0u16; 960];
-    let mut letters = [0u16; 1922];
+    let mut points = [0u16; 640];
+    let mut letters = [0u16; 1282];
     candidate_of(stripped, tone, &mut points, &mut letters, position, out)
 }
 

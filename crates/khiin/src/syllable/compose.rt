@@ -569,7 +569,7 @@ fn compose_body(
     points: &mut [u16],
     out: &mut [u8],
 ) -> TextAnswer
-    requires { (length body.now ≤ 256) × (length body.now ≤ length points.old / 3 * 2) × (length body.now + 1 < length points.old) }
+    requires { (length body.now ≤ 256) × (length body.now ≤ length points.old) × (length body.now + 1 < length points.old) }
     ensures { (rawInput : List ℕ) → raw.now ≡ encode rawInput → textReply result out.new ≡ composeOf unicode16 tone khin (good rawInput) (checkText unicode16 body.now) out.old }
 {
     match unicode::points(body, points) {
@@ -586,7 +586,7 @@ fn compose_short(raw: &[u8], body: &[u8], tone: Tone, khin: Khin, out: &mut [u8]
     requires { length body.now ≤ 16 }
     ensures { (rawInput : List ℕ) → raw.now ≡ encode rawInput → textReply result out.new ≡ composeOf unicode16 tone khin (good rawInput) (checkText unicode16 body.now) out.old }
 {
-    let mut points = [0u16; 24];
+    let mut points = [0u16; 18];
     compose_body(raw, body, tone, khin, &mut points, out)
 }
 
@@ -595,7 +595,7 @@ fn compose_long(raw: &[u8], body: &[u8], tone: Tone, khin: Khin, out: &mut [u8])
     requires { length body.now ≤ 256 }
     ensures { (rawInput : List ℕ) → raw.now ≡ encode rawInput → textReply result out.new ≡ composeOf unicode16 tone khin (good rawInput) (checkText unicode16 body.now) out.old }
 {
-    let mut points = [0u16; 384];
+    let mut points = [0u16; 258];
     compose_body(raw, body, tone, khin, &mut points, out)
 }
 

@@ -9,12 +9,12 @@ ghost use Rattle.khiin.specs.Syllable.{mark_of, encoded, composedWith};
 ghost use Rattle.khiin.specs.Compose.{Front, markText, answer_of, staysBehind, settledFrom, Joined, inserted};
 
 use ji::lomaji::tone_letter::{Place, tone_position};
-use ji::nfc::{Normalised, normalise};
+use ji::nfc::normalise;
 use ji::reply;
 use ji::reply::{Refusal, TextAnswer};
 use ji::text::replace_pair;
 use ji::tone::Tone;
-use ji::unicode::ByteLen;
+use ji::unicode::{ByteLen, Decoded};
 
 // What a tone adds.
 #[derive(Clone, Copy)]
@@ -251,12 +251,12 @@ pub(crate) fn insert_mark(s: &mut [u16], k: usize, mark: u16)
 
 // Puts `s` into compose's encoding, NFC with U+0324 U+030D swapped, at the front of `out`.
 fn encode_into(s: &[u16], out: &mut [u16]) -> usize
-    requires { 3 * length s.now ≤ length out.old }
+    requires { (length s.now ≤ 1024) × (3 * length s.now ≤ length out.old) }
     ensures { Front out.new result (encoded unicode16 s.now) }
 {
     match normalise(s, out) {
-        Normalised::NoRoom => 0,
-        Normalised::Done(len) => {
+        Decoded::Refused(_) => 0,
+        Decoded::Points(len) => {
             let n = len.0;
             replace_pair(&mut out[0..n], 0x0324, 0x030D, 0x030D, 0x0324);
             n
@@ -307,7 +307,7 @@ pub(crate) fn answer(size: usize) -> TextAnswer
 
 // Writes `s` in compose's encoding to `out`, from a buffer where it is put into that.
 fn place_normalised(s: &[u16], a: &mut [u16], out: &mut [u8]) -> usize
-    requires { 3 * length s.now ≤ length a.old }
+    requires { (length s.now ≤ 1024) × (3 * length s.now ≤ length a.old) }
     ensures { textReply (answer_of result) out.new ≡ placed 0 (encode (encoded unicode16 s.now)) out.old }
 {
     let n = encode_into(s, a);
@@ -319,8 +319,8 @@ fn place_encoded(s: &[u16], out: &mut [u8]) -> usize
     requires { length s.now ≤ 803 }
     ensures { textReply (answer_of result) out.new ≡ placed 0 (encode (encoded unicode16 s.now)) out.old }
 {
-    if s.len() <= 24 {
-        let mut a = [0u16; 72];
+    if s.len() <= 12 {
+        let mut a = [0u16; 36];
         return place_normalised(s, &mut a, out);
     }
     let mut a = [0u16; 2409];

@@ -1,5 +1,4 @@
 use mathlib.Core.Path.{◌≡◌, sym, ap, ◌∙◌, subst}
-use mathlib.Core.Bool.{false}
 use mathlib.Core.List.{List, [], ◌∷◌, ◌++◌}
 use Prim.Native.Nat.{ℕ, ◌+◌, ◌-◌, ◌≤◌}
 use native.Mathlib.Nat.{sub-zero}
@@ -9,19 +8,17 @@ use Rattle.ji.specs.Unicode.{unicode16}
 use Rattle.ji.specs.Utf8.{decode, encode}
 use Rattle.ji.specs.Written.{Written}
 use Rattle.ji.specs.Reply.{placed, good, checkPoints}
-use Rattle.ji.specs.Reading.{Reading}
 use Rattle.ji.specs.declared.unicode.CharLen.{CharLen}
 use Rattle.ji.specs.declared.unicode.Decoded.TheVariants.{Points}
 use Rattle.ji.proofs.Writing.{written-length, written-take, stored-key}
-use Rattle.ji.proofs.Readings.{told}
-use Rattle.ji.proofs.unicode.Laws.{spread-plain}
+use Rattle.ji.proofs.Points.{points-done, points-refused}
 use Rattle.ji.proofs.unicode.Checked.{bytes_good, good-same, good-not-bad}
 use Rattle.khiin.specs.Telex.{composedOf, RestIn}
 use Rattle.khiin.proofs.syllable.compose.Reading.{fewer}
 use Rattle.khiin.proofs.converter.Laws.{key-behind}
 use native.Mathlib.Omega.{arith}
 use Rattle.khiin.proofs.converter.compose_in.Goals as goal
-use Rattle.khiin.proofs.converter.compose_in.Goals.{After-points, After-points}
+use Rattle.khiin.proofs.converter.compose_in.Goals.{After-points}
 
 -- the stripped text was read
 module _ (c : After-points) where
@@ -40,8 +37,8 @@ module _ (c : After-points) where
   size : length (take n c.args.bytes.now) ≡ n
   size = let p = c.requires.1 in length-take-le n c.args.bytes.now (omega (arith, p))
 
-  reading : Reading unicode16 false part c.args.points.now after c.points.result
-  reading = let p = c.requires.2 in c.points.ensures.0 (rw part-is (omega (arith, size, p)))
+  room : length part ≤ length c.args.points.now
+  room = let p = c.requires.2 in rw part-is (omega (arith, size, p))
 
   module _ (h : RestIn c.args.bytes.now n) where
     good-rest : checkPoints unicode16 (decode part) ≡ good h.rest
@@ -53,8 +50,8 @@ module _ (c : After-points) where
     module _ (len : CharLen) (is : c.points.result ≡ Points len) where
       read : Written c.args.points.now after len.0 h.rest
       read =
-          let g = told unicode16 part c.args.points.now after false is reading in
-          subst (λ (l : List ℕ). Written c.args.points.now after len.0 l) (spread-plain unicode16 g.0 ∙ good-same (sym g.1 ∙ good-rest)) g.2
+          let g = points-done part c.args.points.now after room c.points.ensures len is in
+          subst (λ (l : List ℕ). Written c.args.points.now after len.0 l) (good-same (sym g.1 ∙ good-rest)) g.2
 
       raw-is : take (n + 1 - 0) (set c.args.bytes.now n c.args.key) ≡ encode (take len.0 after ++ (c.args.key ∷ []))
       raw-is =
@@ -78,7 +75,8 @@ compose_step-requires c =
 pub returns-in-Refused : goal.returns-in-Refused
 returns-in-Refused c =
     λ h.
-    absurd (good-not-bad (sym (good-rest (goal.at.returns-in-Refused c).After-points h) ∙ (told unicode16 _ _ _ false c.in-Refused.is (reading (goal.at.returns-in-Refused c).After-points)).0))
+    let at-points = (goal.at.returns-in-Refused c).After-points in
+    absurd (good-not-bad (sym (good-rest at-points h) ∙ points-refused (part at-points) c.args.points.now c.points.new.out (room at-points) c.points.ensures c.in-Refused.why c.in-Refused.is))
 
 pub returns-in-Points : goal.returns-in-Points
 returns-in-Points c =
