@@ -20,7 +20,7 @@ use Rattle.khiin_entries.specs.KeySequence.{pickTexts, each, product, forms, cho
 use Rattle.khiin_entries.proofs.key_sequence.Product.{size, length-product}
 use Rattle.grammar.specs.WellFormed.{Texts, passing, WellFormed, text, Few, dotted, dots}
 use Rattle.sweep.proofs.Tests.{Each}
-use Rattle.roundtrip.specs.Demand3.{list, several, counted, digits, isNumbered}
+use Rattle.roundtrip.specs.Demand3.{listFor, list, several, counted, digits, isNumbered}
 use Rattle.roundtrip.proofs.Digits.{passing-all, holds-append, holds-each, numbered-product}
 use Rattle.roundtrip.proofs.Keys.{ascii_append, bare, numbered, bare-ascii, numbered-ascii, formsOf, forms-are, forms-numeric, forms-detoned, alone-forms, holds-forms, digits-apart}
 use Rattle.roundtrip.proofs.Entries.{keyings-entry}
@@ -121,7 +121,7 @@ own-bytes [] h = refl
 own-bytes (t ∷ ts) h = ap₂ ◌∷◌ (ascii-bytes t h.0) (own-bytes ts h.1)
 
 pub list-numeric : (ss : List WellFormed) → Few ss → list 1 ss ≡ list_of unicode16 Numeric (map text ss)
-unfolding list
+unfolding listFor
 list-numeric ss f = ap (map encode) (keyings-entry ss f Numeric) ∙ own-bytes (list_of unicode16 Numeric (map text ss)) (ascii-list ss)
 
 -- ── the fully numbered ones are the combinations of the forms with their digits

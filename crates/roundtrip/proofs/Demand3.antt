@@ -15,10 +15,11 @@ use Rattle.khiin_entries.specs.KeySequence.{product, keyings}
 use Rattle.khiin.specs.Syllable.{compose}
 use Rattle.robinflint.specs.Arguments.{kind_of}
 use Rattle.grammar.specs.WellFormed.{Texts, WellFormed, text, spaced, entry, Few, dots}
-use Rattle.roundtrip.specs.Demand3.{entryBytes, list, keyingAt, counted, isNumbered, Numbered, cut, Returning, Demand3}
+use Rattle.roundtrip.specs.Demand3.{listFor, entryBytes, list, keyingAt, counted, isNumbered, Numbered, cut, Returning, OfEntry, Demand3}
 use Rattle.roundtrip.proofs.Digits.{cut-piece, passing-in, each_in, getD-in}
 use Rattle.roundtrip.proofs.Keys.{digitOf, tone-digit, bare, numbered, bare-keys, piece_of}
 use Rattle.roundtrip.proofs.Calls.{compose-text, from-raw, returns}
+use Rattle.roundtrip.proofs.AnyEntry.{call-answered}
 use Rattle.roundtrip.proofs.Entries.{keyings-entry, entry-answers}
 use Rattle.roundtrip.proofs.Counts.{count-list, toned, numbered-list, count-numbered}
 
@@ -106,12 +107,12 @@ one_entry {t} {u} {ss} {rs} e p q =
 
 -- ── the demand
 count-kind : (ss : List WellFormed) → Few ss → (kind : ℕ) → length (list kind ss) ≡ counted (kind_of kind) (length ss) (dots ss)
-unfolding list
+unfolding listFor
 count-kind ss f kind =
     length-map (keyings unicode16 (kind_of kind) (entry ss)) encode ∙ ap length (keyings-entry ss f (kind_of kind)) ∙ count-list (kind_of kind) ss f
 
-pub demand3 : Demand3
-demand3 ss f =
+of-entry : (ss : List WellFormed) → Few ss → OfEntry ss
+of-entry ss f =
     record {
       answers = entry-answers ss f;
       counts = λ kind h. count-kind ss f kind;
@@ -126,3 +127,6 @@ demand3 ss f =
           };
       only = λ rs g i j n m e. one_entry e (parted ss f i n) (parted rs g j m);
     }
+
+pub demand3 : Demand3
+demand3 = record { calls = call-answered; entries = of-entry }

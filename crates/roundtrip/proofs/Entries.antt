@@ -1,29 +1,29 @@
 -- An entry of well-formed syllables: its parts are its syllables, and no call refuses it.
-use mathlib.Core.Path.{◌≡◌, refl, sym, ap, ap₂, ◌∙◌}
-use mathlib.Core.Bool.{Bool, true, ◌&&◌}
+use mathlib.Core.Path.{◌≡◌, refl, ap, ◌∙◌}
+use mathlib.Core.Bool.{true, ◌&&◌}
 use mathlib.Core.List.{List, [], ◌∷◌, ◌++◌, map}
 use Prim.Native.Nat.{ℕ, suc, ◌+◌, ◌*◌, ◌≤◌, ◌<◌}
 use native.Mathlib.Omega.{arith}
-use borrow.Author.Tests.{le-leb, lt-ltb, ne_eqb}
+use borrow.Author.Tests.{le-leb, ne_eqb}
 use lib.Dec.{leb}
-use lib.ListN.{length, get_or, length-append, length-map}
+use lib.ListN.{length, length-append, length-map}
 use Rattle.ji.specs.Unicode.{All, unicode16, member, members}
 use Rattle.ji.specs.Utf8.{encode}
-use Rattle.ji.specs.Reply.{refused, pickReply, Checked, good, bad, pickChecked}
-use Rattle.ji.specs.declared.reply.Refusal.TheVariants.{Argument, Parts, Position, NoRoom}
+use Rattle.ji.specs.Reply.{good, bad, pickChecked}
+use Rattle.ji.specs.declared.reply.Refusal.TheVariants.{Parts}
 use Rattle.ji.specs.declared.lomaji.keys.Kind.{Kind}
 use Rattle.ji.proofs.Bools.{and_yes}
 use Rattle.ji.proofs.unicode.Ascii.{ascii-member}
 use Rattle.ji.proofs.unicode.Bytes.{bytes_one, encode-cons, encode-append}
 use Rattle.ji.proofs.unicode.Checked.{check-passes}
 use Rattle.ji.proofs.unicode.Laws.{members-append}
-use Rattle.khiin_entries.specs.KeySequence.{split, list_of, keyings, partsFit, checkParts, checkEntry, keyed, placedKeying, keyingOf, keyingCall}
-use Rattle.khiin_entries.proofs.key_sequence.Splitting.{map_at}
-use Rattle.robinflint.specs.Arguments.{kind_of, keyingNumbered}
+use Rattle.khiin_entries.specs.KeySequence.{split, list_of, keyings, partsFit, checkParts, checkEntry}
+use Rattle.robinflint.specs.Arguments.{keyingNumbered}
 use Rattle.grammar.specs.WellFormed.{Texts, WellFormed, text, spaced, entry, Few}
 use Rattle.sweep.proofs.Tests.{Each}
 use Rattle.sweep.proofs.Syllables.{syllable-text}
-use Rattle.roundtrip.specs.Demand3.{entryBytes, list, keyingAt}
+use Rattle.roundtrip.specs.Demand3.{given, entryBytes, list, keyingAt}
+use Rattle.roundtrip.proofs.AnyEntry.{good-answers}
 
 -- ── its parts
 abbrev NoSpace : List ℕ → Type 0
@@ -102,26 +102,6 @@ module _ (ss : List WellFormed) (f : Few ss) where
   unfolding keyings
   keyings-entry kind = ap (list_of unicode16 kind) (split-entry ss f)
 
-  module _ (kind position : ℕ) (buffer : List ℕ) where
-    abbrev texts : Texts
-    texts = keyings unicode16 (kind_of kind) (entry ss)
-
-    at_position : keyingAt kind ss position ≡ encode (get_or texts position [])
-    unfolding list
-    at_position = map_at texts position
-
-    count-is : length (list kind ss) ≡ length texts
-    unfolding list
-    count-is = length-map texts encode
-
-    pub entry-answers : kind ≤ 2 → position < length (list kind ss) → length (keyingAt kind ss position) ≤ length buffer
-        → keyingNumbered (entryBytes ss) kind position buffer ≡ keyed unicode16 (length (list kind ss)) (keyingAt kind ss position) buffer
-    unfolding keyingCall
-    entry-answers h inside room =
-        let n : position < length texts = rw (← count-is) inside in
-        let k : length (encode (get_or texts position [])) ≤ length buffer = rw (← at_position) room in
-        ap (λ (b : Bool). pickReply b (keyingCall unicode16 (entryBytes ss) (kind_of kind) position buffer) (refused Argument buffer)) (le-leb kind 2 h)
-        ∙ ap (λ (c : Checked). keyingOf unicode16 (kind_of kind) c position buffer) entry-good
-        ∙ ap (λ (b : Bool). pickReply b (placedKeying unicode16 (length texts) (encode (get_or texts position [])) buffer) (refused Position buffer)) (lt-ltb position (length texts) n)
-        ∙ ap (λ (b : Bool). pickReply b (keyed unicode16 (length texts) (encode (get_or texts position [])) buffer) (refused NoRoom buffer)) (le-leb (length (encode (get_or texts position []))) (length buffer) k)
-        ∙ ap₂ (λ (c : ℕ) (u : List ℕ). keyed unicode16 c u buffer) (sym count-is) (sym at_position)
+  pub entry-answers : (kind position : ℕ) (buffer : List ℕ) → kind ≤ 2 → position < length (list kind ss) → length (keyingAt kind ss position) ≤ length buffer
+      → keyingNumbered (entryBytes ss) kind position buffer ≡ given kind (entry ss) position buffer
+  entry-answers kind position buffer known inside fits = good-answers (entryBytes ss) (entry ss) kind position buffer entry-good known inside fits

@@ -2,6 +2,7 @@ pub mod Digits
 pub mod Keys
 pub mod Alignment
 pub mod Calls
+pub mod AnyEntry
 pub mod Entries
 pub mod Counts
 pub mod Demand3

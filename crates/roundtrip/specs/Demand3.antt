@@ -1,32 +1,55 @@
--- Demand 3 as one statement about the replies of the calls, byte for byte; `ss` are the syllables of an entry.
+-- Demand 3 as one statement about the replies of the calls, byte for byte; `bytes` are what an entry call is handed, `text` are the code points of an
+-- entry, and `ss` its syllables where they are well formed.
 use Rattle.std.specs.Prelude.{◌≡◌, Bool, List, [], ◌∷◌, ◌++◌, map, ℕ, suc, ◌+◌, ◌-◌, ◌*◌, ◌^◌, ◌≤◌, ◌<◌, eqb, length, take, get_or}
 use Rattle.ji.specs.Unicode.{unicode16, pickNumber}
 use Rattle.ji.specs.Text.{point, within, last}
 use Rattle.ji.specs.Utf8.{encode}
 use Rattle.ji.specs.Tone.{toneNumber}
-use Rattle.ji.specs.Reply.{Reply, answered}
+use Rattle.ji.specs.Reply.{Reply, answered, good}
 use Rattle.ji.specs.declared.lomaji.keys.Kind.{Kind}
 use Rattle.ji.specs.declared.lomaji.keys.Kind.TheVariants.{Detoned, Numeric, Telex}
 use Rattle.khiin_records.specs.Syllable.{fromRawCall}
 use Rattle.khiin_records.specs.Alignment.{alignCall}
-use Rattle.khiin_entries.specs.KeySequence.{inFront, keyings, keyed}
+use Rattle.khiin_entries.specs.KeySequence.{inFront, keyings, checkEntry, keyed}
 use Rattle.robinflint.specs.Arguments.{kind_of, composeNumbered, keyingNumbered}
 use Rattle.grammar.specs.WellFormed.{Texts, pickTexts, passing, WellFormed, text, entry, Few, dots}
 
+-- ── every entry call
+-- "the list that 01 gives for its entry and kind", in bytes; the kind is "0 (detoned), 1 (numeric), 2 (telex)"
+unfoldable pub listFor : ℕ → List ℕ → Texts
+listFor kind text = map encode (keyings unicode16 (kind_of kind) text)
+
+-- "the keying at the position named"
+abbrev pub keyingFor : ℕ → List ℕ → ℕ → List ℕ
+keyingFor kind text position = get_or (listFor kind text) position []
+
+-- "reports as its count the length of the list .., and gives the keying": each number of the reply, and each byte that it leaves in the lent buffer
+abbrev pub given : ℕ → List ℕ → ℕ → List ℕ → Reply
+given kind text position buffer = keyed unicode16 (length (listFor kind text)) (keyingFor kind text position) buffer
+
+-- "Every entry call not refused": its kind is one of the three, its bytes are those of an entry, the list has the position, the buffer holds the keying
+pub record Answered (bytes : List ℕ) (kind position : ℕ) (buffer : List ℕ) : Type 0 where
+  pub text : List ℕ
+  pub known : kind ≤ 2
+  pub checked : checkEntry unicode16 bytes ≡ good text
+  pub inside : position < length (listFor kind text)
+  pub fits : length (keyingFor kind text position) ≤ length buffer
+  pub gives : keyingNumbered bytes kind position buffer ≡ given kind text position buffer
+
+-- ── counts
+-- "For every entry of n well-formed syllables (1 to 16, as 01 defines them)"
 abbrev pub syllableBytes : WellFormed → List ℕ
 syllableBytes s = encode (text s)
 
 abbrev pub entryBytes : List WellFormed → List ℕ
 entryBytes ss = encode (entry ss)
 
--- ── counts
--- "the list that 01 gives for its entry and kind", in bytes; the kind is "0 (detoned), 1 (numeric), 2 (telex)"
-unfoldable pub list : ℕ → List WellFormed → Texts
-list kind ss = map encode (keyings unicode16 (kind_of kind) (entry ss))
+-- its list of a kind, and the keying at a position
+abbrev pub list : ℕ → List WellFormed → Texts
+list kind ss = listFor kind (entry ss)
 
--- "the keying at the position named"
 abbrev pub keyingAt : ℕ → List WellFormed → ℕ → List ℕ
-keyingAt kind ss position = get_or (list kind ss) position []
+keyingAt kind ss position = keyingFor kind (entry ss) position
 
 -- "4^d · 2^(n−d) numeric, as many telex and 2^d detoned ..
 abbrev pub several : Kind → ℕ → ℕ → ℕ
@@ -96,11 +119,12 @@ pub record Pieces (keying : List ℕ) (ss : List WellFormed) : Type 0 where
   pub returning : Returning pieces ss
 
 -- ── the demand
--- what it says of one entry
+-- what it says of one entry of well-formed syllables
 pub record OfEntry (ss : List WellFormed) : Type 0 where
-  -- "Every entry call not refused reports as its count the length of the list .., and gives the keying at the position named"; none is refused
+  -- no call for a keying of its list is refused where the buffer holds the keying
   pub answers : (kind position : ℕ) (buffer : List ℕ) → kind ≤ 2 → position < length (list kind ss) → length (keyingAt kind ss position) ≤ length buffer
-      → keyingNumbered (entryBytes ss) kind position buffer ≡ keyed unicode16 (length (list kind ss)) (keyingAt kind ss position) buffer
+      → keyingNumbered (entryBytes ss) kind position buffer ≡ given kind (entry ss) position buffer
+  -- "that count is .."
   pub counts : (kind : ℕ) → kind ≤ 2 → length (list kind ss) ≡ counted (kind_of kind) (length ss) (dots ss)
   -- "Exactly 2^d numeric positions hold a fully numbered keying"
   pub numbered : length (passing (isNumbered (length ss)) (list 1 ss)) ≡ 2 ^ dots ss
@@ -111,5 +135,9 @@ pub record OfEntry (ss : List WellFormed) : Type 0 where
       → entryBytes ss ≡ entryBytes rs
 
 -- "a single claim over all entries with all their keyings and pieces"
-abbrev pub Demand3 : Type 0
-Demand3 = (ss : List WellFormed) → Few ss → OfEntry ss
+pub record Demand3 : Type 0 where
+  -- "Every entry call not refused reports as its count the length of the list .., and gives the keying at the position named"
+  pub calls : (bytes : List ℕ) (kind position : ℕ) (buffer : List ℕ) → (keyingNumbered bytes kind position buffer).code ≡ 0
+      → Answered bytes kind position buffer
+  -- "For every entry of n well-formed syllables (1 to 16, as 01 defines them) .."
+  pub entries : (ss : List WellFormed) → Few ss → OfEntry ss
