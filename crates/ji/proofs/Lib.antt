@@ -10,7 +10,6 @@ pub mod Composition
 pub mod ComposeLoops
 pub mod Decomposition
 pub mod Normalisation
-pub mod Normalised
 pub mod Points
 pub mod Finished
 pub mod Closure

@@ -6,6 +6,9 @@ use Rattle.ji.specs.Utf8.{decode}
 use Rattle.ji.specs.Unicode.{accepted, spread}
 use Rattle.ji.specs.Nfd.{nfd}
 use Rattle.ji.specs.Reply.{Reply, refused, over, placed, Checked, good, bad, checkPoints, checkText}
+use Rattle.std.proofs.Math.Option.{Option, none, some}
+use Rattle.ji.specs.declared.reply.Refusal.{Refusal}
+use Rattle.ji.specs.declared.reply.Refusal.TheVariants.{IllFormed, OutsideTable}
 use Rattle.ji.specs.declared.unicode.Spread.{Spread}
 use Rattle.ji.specs.declared.unicode.Spread.TheVariants.{One, Two, Three}
 use Rattle.ji.specs.declared.unicode.Decoded.{Decoded}
@@ -16,6 +19,11 @@ abbrev pub spreadText : Spread → List ℕ
 spreadText (One a) = a ∷ []
 spreadText (Two a b) = a ∷ b ∷ []
 spreadText (Three a b c) = a ∷ b ∷ c ∷ []
+
+-- why a text is refused whose next code point is outside the table, by what the rest decodes to
+abbrev pub faultIn : Option (List ℕ) → Refusal
+faultIn none = IllFormed
+faultIn (some s) = OutsideTable
 
 -- the code points of the bytes s, as they are or fully decomposed, stand in the buffer; of a text that is refused, those before the fault
 abbrev pub Reading : Table → Bool → List ℕ → List ℕ → List ℕ → Decoded → Type 0

@@ -4,11 +4,11 @@ ghost use Rattle.std.proofs.Math.Option.{none, some};
 ghost use Rattle.ucd.specs.Unicode16.{unicode16};
 ghost use Rattle.ji.specs.Utf8.{encode};
 ghost use Rattle.ji.specs.Reply.{placed, textCall, textReply};
-ghost use Rattle.ji.specs.Reading.{pointsReply};
-ghost use Rattle.ji.specs.Normalising.{normaliseCall};
+ghost use Rattle.ji.specs.Normalising.{exchanged, exchangedCall};
 ghost use Rattle.ji.specs.Nfc.{pickDone, reversed, absorb, compose, nfc};
 
 use crate::reply::{Refusal, TextAnswer};
+use crate::text::replace_pair;
 use crate::unicode::Decoded;
 use crate::{nfd, reply, unicode};
 
@@ -64,30 +64,31 @@ pub(crate) fn compose(s: &mut [u16]) -> usize
     n
 }
 
-// NFC of the code points `s`, in `out`, made in `work`.
-fn normalise_in(s: &[u16], work: &mut [u16], out: &mut [u16]) -> Decoded
+// NFC of the code points `s`, made in `work`, with each `a` `b` in it exchanged, in `out`.
+fn place_in(s: &[u16], a: u16, b: u16, work: &mut [u16], out: &mut [u8]) -> TextAnswer
     requires { 3 * length s.now ≤ length work.old }
-    ensures { pointsReply result out.new ≡ placed 0 (nfc unicode16 s.now) out.old }
+    ensures { textReply result out.new ≡ placed 0 (encode (exchanged a b (nfc unicode16 s.now))) out.old }
 {
     let n = unicode::decompose(s, work);
     nfd::order(&mut work[0..n]);
     let m = compose(&mut work[0..n]);
-    unicode::place_points(&work[0..m], out)
+    replace_pair(&mut work[0..m], a, b, b, a);
+    reply::place(&work[0..m], out)
 }
 
-// NFC of the code points `s`, in `out`. Short texts are normalised in a small buffer, since clearing it is quicker.
-pub fn normalise(s: &[u16], out: &mut [u16]) -> Decoded
-    ensures { pointsReply result out.new ≡ normaliseCall unicode16 s.now out.old }
+// NFC of the code points `s`, with each `a` `b` in it exchanged, in `out`. Short texts are normalised in a small buffer, since clearing it is quicker.
+pub fn place_exchanged(s: &[u16], a: u16, b: u16, out: &mut [u8]) -> TextAnswer
+    ensures { textReply result out.new ≡ exchangedCall unicode16 a b s.now out.old }
 {
-    if s.len() <= 12 {
-        let mut work = [0u16; 36];
-        return normalise_in(s, &mut work, out);
+    if s.len() <= 24 {
+        let mut work = [0u16; 72];
+        return place_in(s, a, b, &mut work, out);
     }
     if s.len() <= 1024 {
         let mut work = [0u16; 3072];
-        return normalise_in(s, &mut work, out);
+        return place_in(s, a, b, &mut work, out);
     }
-    Decoded::Refused(Refusal::TooLong)
+    TextAnswer::Refused(Refusal::TooLong)
 }
 
 // Composes `s`, which is in NFD, and writes it to `out`.

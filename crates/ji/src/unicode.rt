@@ -1,6 +1,6 @@
 // Texts of the table: read from bytes, checked and, if asked, decomposed while they are read. Lengths in bytes and in code points are two
 // types; only the UTF-8 walk turns one into the other.
-ghost use Rattle.std.specs.Prelude.{◌≡◌, [], ◌∷◌, ◌++◌, ℕ, ◌+◌, ◌*◌, ◌≤◌, length, false, ◌/◌};
+ghost use Rattle.std.specs.Prelude.{◌≡◌, [], ◌∷◌, ◌++◌, ℕ, ◌+◌, ◌*◌, ◌≤◌, length, false, ◌/◌, drop};
 ghost use Rattle.std.proofs.Math.Seq.{paste};
 ghost use Rattle.ucd.specs.Table.{decomposition};
 ghost use Rattle.ucd.specs.Unicode16.{unicode16};
@@ -9,11 +9,11 @@ ghost use Rattle.ucd.specs.Full.{full};
 ghost use Rattle.ji.specs.Text.{allAscii};
 ghost use Rattle.ji.specs.Utf8.{decode, lastStart, lastPoint};
 ghost use Rattle.ji.specs.Written.{Written};
-ghost use Rattle.ji.specs.Reply.{placed, checkPoints, checkWithin, verdictOf};
-ghost use Rattle.ji.specs.Reading.{spreadText, Reading, Counting, pointsReply, pointsCall};
+ghost use Rattle.ji.specs.Reply.{checkPoints, checkWithin, verdictOf};
+ghost use Rattle.ji.specs.Reading.{spreadText, faultIn, Reading, Counting, pointsReply, pointsCall};
 
 use crate::reply::Refusal;
-use crate::{text, utf8};
+use crate::utf8;
 use ucd::Mapping;
 
 // A number of bytes.
@@ -99,6 +99,17 @@ fn put(points: Spread, out: &mut [u16], at: usize) -> usize
     }
 }
 
+// Why a text is refused that has a code point outside the table at `at`: the rest decides whether it is well formed.
+fn fault_at(s: &[u8], at: usize) -> Refusal
+    requires { at ≤ length s.now }
+    ensures { result ≡ faultIn (decode (drop at s.now)) }
+{
+    if utf8::well_formed(s, at) {
+        return Refusal::OutsideTable;
+    }
+    Refusal::IllFormed
+}
+
 // The code points of `s`, as they are or fully decomposed, written to the front of `out`.
 pub(crate) fn decode(s: &[u8], decomposed: bool, out: &mut [u16]) -> Decoded
     requires { length (spread unicode16 decomposed (accepted unicode16 s.now)) ≤ length out.old }
@@ -107,20 +118,23 @@ pub(crate) fn decode(s: &[u8], decomposed: bool, out: &mut [u16]) -> Decoded
     let mut i = 0;
     let mut n: usize = 0;
     while i < s.len() {
-        let sequence = utf8::read(s, i);
-        let width = sequence.width;
-        if width == 0 {
-            return Decoded::Refused(Refusal::IllFormed);
-        }
-        let point = sequence.point;
-        if ucd::is_member(point) {
-            n = put(spread_point(point as u16, decomposed), out, n);
-            i += width;
+        let a = s[i];
+        if a < 0x80 {
+            n = put(Spread::One(a as u16), out, n);
+            i += 1;
         } else {
-            if utf8::well_formed(s, i) {
-                return Decoded::Refused(Refusal::OutsideTable);
+            let sequence = utf8::read(s, i);
+            let width = sequence.width;
+            if width == 0 {
+                return Decoded::Refused(Refusal::IllFormed);
             }
-            return Decoded::Refused(Refusal::IllFormed);
+            let point = sequence.point;
+            if ucd::is_member(point) {
+                n = put(spread_point(point as u16, decomposed), out, n);
+                i += width;
+            } else {
+                return Decoded::Refused(fault_at(s, i));
+            }
         }
     }
     Decoded::Points(CharLen(n))
@@ -172,20 +186,21 @@ fn count_points(s: &[u8]) -> Decoded
     let mut i: usize = 0;
     let mut n: usize = 0;
     while i < s.len() {
-        let sequence = utf8::read(s, i);
-        let width = sequence.width;
-        if width == 0 {
-            return Decoded::Refused(Refusal::IllFormed);
-        }
-        let point = sequence.point;
-        if ucd::is_member(point) {
-            i += width;
+        if s[i] < 0x80 {
+            i += 1;
             n += 1;
         } else {
-            if utf8::well_formed(s, i) {
-                return Decoded::Refused(Refusal::OutsideTable);
+            let sequence = utf8::read(s, i);
+            let width = sequence.width;
+            if width == 0 {
+                return Decoded::Refused(Refusal::IllFormed);
             }
-            return Decoded::Refused(Refusal::IllFormed);
+            if ucd::is_member(sequence.point) {
+                i += width;
+                n += 1;
+            } else {
+                return Decoded::Refused(fault_at(s, i));
+            }
         }
     }
     Decoded::Points(CharLen(n))
@@ -258,16 +273,6 @@ pub fn last_point(text: &[u8]) -> u16
         return point as u16;
     }
     0
-}
-
-// Writes the code points `s` to `out`, if there is room for all of them.
-pub(crate) fn place_points(s: &[u16], out: &mut [u16]) -> Decoded
-    ensures { pointsReply result out.new ≡ placed 0 s.now out.old }
-{
-    if out.len() < s.len() {
-        return Decoded::Refused(Refusal::NoRoom);
-    }
-    Decoded::Points(CharLen(text::put(s, out, 0)))
 }
 
 // The full decomposition of the code points `s`, written to the front of `out`.

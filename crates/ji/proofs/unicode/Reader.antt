@@ -16,7 +16,7 @@ use Rattle.ji.specs.Written.{Written}
 use Rattle.ji.specs.Utf8.{width_at, pointAt, more, decode, isDecoded, bytes_of}
 use Rattle.ji.specs.Unicode.{members, acceptedFrom, accepted, spread}
 use Rattle.ji.specs.Reply.{good, bad, pickChecked, checkPoints}
-use Rattle.ji.specs.Reading.{Reading}
+use Rattle.ji.specs.Reading.{faultIn, Reading}
 use Rattle.ji.specs.declared.reply.Refusal.TheVariants.{IllFormed, OutsideTable}
 use Rattle.ji.specs.declared.unicode.Decoded.TheVariants.{Points, Refused}
 use Rattle.ji.proofs.Bools.{false-true}
@@ -135,15 +135,12 @@ module _ (t : Table) (s : List ℕ) where
           ap (checkPoints t) (r.decoded ∙ ap (onto u) (decode-at s i h k ∙ ap (more (pointAt (drop i s))) e))
           ∙ ap (λ (b : Bool). pickChecked b (good (u ++ (pointAt (drop i s) ∷ v))) (bad OutsideTable)) (members-not t u (pointAt (drop i s)) v r.inside m)
 
-      pub taken-outside : isDecoded (decode (drop i s)) ≡ true → checkPoints t (decode s) ≡ bad OutsideTable
-      taken-outside f = found (decode (drop (i + width_at (drop i s)) s)) refl (sym (ap isDecoded (decode-at s i h k)) ∙ f)
-
-      undecoded : (o : Option (List ℕ)) → isDecoded o ≡ false → o ≡ none
-      undecoded none f = refl
-      undecoded (some v) f = absurd (false-true (sym f))
-
-      pub taken-outside-ill : isDecoded (decode (drop i s)) ≡ false → checkPoints t (decode s) ≡ bad IllFormed
-      taken-outside-ill f = taken_none (undecoded (decode (drop i s)) f)
+      pub taken-outside : checkPoints t (decode s) ≡ bad (faultIn (decode (drop i s)))
+      taken-outside = go (decode (drop i s)) refl
+        where
+          go : (o : Option (List ℕ)) → decode (drop i s) ≡ o → checkPoints t (decode s) ≡ bad (faultIn o)
+          go none e = taken_none e
+          go (some v) e = found (decode (drop (i + width_at (drop i s)) s)) refl (sym (ap isDecoded (decode-at s i h k)) ∙ ap isDecoded e)
 
     -- one more code point
     pub taken_more : i < length s → 0 < width_at (drop i s) → member t (pointAt (drop i s)) ≡ true → Taken t s (u ++ (pointAt (drop i s) ∷ [])) (i + width_at (drop i s))
@@ -178,11 +175,8 @@ module _ (t : Table) (d : Bool) (s before : List ℕ) where
 
       module _ (k : 0 < width_at (drop i s)) where
         module _ (m : member t (pointAt (drop i s)) ≡ false) where
-          pub read-outside : isDecoded (decode (drop i s)) ≡ true → Reading t d s before after (Refused OutsideTable)
-          read-outside f = (taken-outside t s r.taken i r.text h k m f, left (accepted-outside t s i h k m))
-
-          pub read-outside-ill : isDecoded (decode (drop i s)) ≡ false → Reading t d s before after (Refused IllFormed)
-          read-outside-ill f = (taken-outside-ill t s r.taken i r.text h k m f, left (accepted-outside t s i h k m))
+          pub read-outside : Reading t d s before after (Refused (faultIn (decode (drop i s))))
+          read-outside = (taken-outside t s r.taken i r.text h k m, left (accepted-outside t s i h k m))
 
         -- a code point of the table is taken
         module _ (m : member t (pointAt (drop i s)) ≡ true) where

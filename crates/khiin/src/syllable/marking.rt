@@ -9,12 +9,11 @@ ghost use Rattle.khiin.specs.Syllable.{mark_of, encoded, composedWith};
 ghost use Rattle.khiin.specs.Compose.{Front, markText, answer_of, staysBehind, settledFrom, Joined, inserted};
 
 use ji::lomaji::tone_letter::{Place, tone_position};
-use ji::nfc::normalise;
+use ji::nfc::place_exchanged;
 use ji::reply;
 use ji::reply::{Refusal, TextAnswer};
-use ji::text::replace_pair;
 use ji::tone::Tone;
-use ji::unicode::{ByteLen, Decoded};
+use ji::unicode::ByteLen;
 
 // What a tone adds.
 #[derive(Clone, Copy)]
@@ -249,21 +248,6 @@ pub(crate) fn insert_mark(s: &mut [u16], k: usize, mark: u16)
     s[k] = mark;
 }
 
-// Puts `s` into compose's encoding, NFC with U+0324 U+030D swapped, at the front of `out`.
-fn encode_into(s: &[u16], out: &mut [u16]) -> usize
-    requires { (length s.now ≤ 1024) × (3 * length s.now ≤ length out.old) }
-    ensures { Front out.new result (encoded unicode16 s.now) }
-{
-    match normalise(s, out) {
-        Decoded::Refused(_) => 0,
-        Decoded::Points(len) => {
-            let n = len.0;
-            replace_pair(&mut out[0..n], 0x0324, 0x030D, 0x030D, 0x0324);
-            n
-        }
-    }
-}
-
 // Writes the text `s` to `out`, and returns one more than its length in bytes, or 0 where there is no room. A number is passed on at no cost, and
 // the answer that it stands for is not.
 fn place(s: &[u16], out: &mut [u8]) -> usize
@@ -305,26 +289,15 @@ pub(crate) fn answer(size: usize) -> TextAnswer
     TextAnswer::Done(ByteLen(size - 1))
 }
 
-// Writes `s` in compose's encoding to `out`, from a buffer where it is put into that.
-fn place_normalised(s: &[u16], a: &mut [u16], out: &mut [u8]) -> usize
-    requires { (length s.now ≤ 1024) × (3 * length s.now ≤ length a.old) }
-    ensures { textReply (answer_of result) out.new ≡ placed 0 (encode (encoded unicode16 s.now)) out.old }
-{
-    let n = encode_into(s, a);
-    place(&a[0..n], out)
-}
-
-// The same in a buffer of its own. Short texts go in a small one, since clearing this is quicker.
+// Writes `s` in compose's encoding to `out`: its NFC, with each U+0324 U+030D exchanged.
 fn place_encoded(s: &[u16], out: &mut [u8]) -> usize
     requires { length s.now ≤ 803 }
     ensures { textReply (answer_of result) out.new ≡ placed 0 (encode (encoded unicode16 s.now)) out.old }
 {
-    if s.len() <= 12 {
-        let mut a = [0u16; 36];
-        return place_normalised(s, &mut a, out);
+    match place_exchanged(s, 0x0324, 0x030D, out) {
+        TextAnswer::Refused(_) => 0,
+        TextAnswer::Done(len) => len.0 + 1,
     }
-    let mut a = [0u16; 2409];
-    place_normalised(s, &mut a, out)
 }
 
 // Writes `s` in compose's encoding, without a mark.

@@ -2,7 +2,7 @@ use mathlib.Core.Path.{◌≡◌, sym, ap, ◌∙◌, subst}
 use mathlib.Core.Bool.{Bool, true, false}
 use mathlib.Core.List.{List, [], ◌∷◌}
 use Prim.Native.Nat.{ℕ, ◌+◌, ◌-◌, ◌*◌, ◌≤◌, ◌<◌}
-use lib.ListN.{length, drop}
+use lib.ListN.{length, drop, get_or}
 use lib.Dec.{T}
 use lib.Seq.{paste}
 use Rattle.ucd.specs.Table.{member}
@@ -10,14 +10,18 @@ use Rattle.ucd.specs.Unicode16.{unicode16}
 use Rattle.ucd.proofs.Unicode16.{member_below}
 use Rattle.ji.specs.Utf8.{width_at, pointAt, ReadOf, decode, isDecoded}
 use Rattle.ji.specs.Unicode.{accepted, spread}
-use Rattle.ji.specs.Reading.{spreadText, Reading}
+use Rattle.ji.specs.Reading.{spreadText, faultIn, Reading}
 use Rattle.ji.specs.declared.reply.Refusal.TheVariants.{IllFormed, OutsideTable}
 use Rattle.ji.specs.declared.unicode.Spread.{Spread}
 use Rattle.ji.specs.declared.unicode.Decoded.TheVariants.{Refused}
 use Rattle.ji.proofs.Writing.{written-length}
 use Rattle.ji.proofs.utf8.Decoding.{width-most}
-use Rattle.ji.proofs.unicode.Reader.{Read, read-start, read-end, read-ill, read-outside, read-outside-ill, read-room, read_more}
+use Rattle.ji.proofs.unicode.Reader.{Read, read-start, read-end, read-ill, read-outside, read-room, read_more}
 use native.Mathlib.Omega.{arith}
+use Rattle.ji.specs.declared.unicode.Spread.TheVariants.{One}
+use Rattle.ji.proofs.utf8.Laws.{read_one}
+use Rattle.ji.proofs.unicode.Laws.{spread-itself}
+use Rattle.ji.proofs.unicode.Ascii.{ascii-member}
 use Rattle.ji.proofs.unicode.decode.Goals as goal
 
 -- a turn that reads a sequence of width w and code point p
@@ -35,15 +39,8 @@ module _ (d : Bool) (s before out : List ℕ) (i n w p : ℕ) (r : Read unicode1
   step = omega (arith, wide, width-most (drop i s))
 
   -- outside the table
-  module _ (m : false ≡ member unicode16 p) where
-    outside : member unicode16 (pointAt (drop i s)) ≡ false
-    outside = ap (member unicode16) (sym point) ∙ sym m
-
-    returns-outside : isDecoded (decode (drop i s)) ≡ true → Reading unicode16 d s before out (Refused OutsideTable)
-    returns-outside = read-outside unicode16 d s before out i n r h positive outside
-
-    returns-ill : isDecoded (decode (drop i s)) ≡ false → Reading unicode16 d s before out (Refused IllFormed)
-    returns-ill = read-outside-ill unicode16 d s before out i n r h positive outside
+  returns-outside : false ≡ member unicode16 p → Reading unicode16 d s before out (Refused (faultIn (decode (drop i s))))
+  returns-outside m = read-outside unicode16 d s before out i n r h positive (ap (member unicode16) (sym point) ∙ sym m)
 
   -- in the table
   module _ (m : true ≡ member unicode16 p) where
@@ -84,10 +81,22 @@ overflow_cast-point c =
 pub put-n-requires : goal.put-n-requires
 put-n-requires c =
     let x = c.args in
+    let low = c.if-a-lt128.true in
+    room-left x.decomposed x.s.now x.out.now c.loop-i.out c.loop-i.i c.loop-i.n 1 (get_or x.s.now c.loop-i.i 0) c.loop-i.invariant c.loop-i-test.true (read_one x.s.now c.loop-i.i c.loop-i-test.true (omega arith)) (λ z. omega arith) (sym (ascii-member _ low)) (One (get_or x.s.now c.loop-i.i 0)) (sym (spread-itself x.decomposed _ (omega arith))) c.requires
+
+pub loop-i-preserved-then-a-lt128 : goal.loop-i-preserved-then-a-lt128
+loop-i-preserved-then-a-lt128 c =
+    let x = c.args in
+    let low = c.if-a-lt128.true in
+    again x.decomposed x.s.now x.out.now c.loop-i.out c.loop-i.i c.loop-i.n 1 (get_or x.s.now c.loop-i.i 0) c.loop-i.invariant c.loop-i-test.true (read_one x.s.now c.loop-i.i c.loop-i-test.true (omega arith)) (λ z. omega arith) (sym (ascii-member _ low)) (One (get_or x.s.now c.loop-i.i 0)) (sym (spread-itself x.decomposed _ (omega arith))) c.requires c.put-n.result c.put-n.new.out c.put-n.ensures.0 c.put-n.ensures.1
+
+pub put-n-requires-then-is_member : goal.put-n-requires-then-is_member
+put-n-requires-then-is_member c =
+    let x = c.args in
     room-left x.decomposed x.s.now x.out.now c.loop-i.out c.loop-i.i c.loop-i.n _ _ c.loop-i.invariant c.loop-i-test.true c.read-sequence.ensures c.if-width-eq0.false (sym c.if-is_member.true ∙ c.is_member.ensures) c.spread_point.result c.spread_point.ensures c.requires
 
-pub overflow_add-i : goal.overflow_add-i
-overflow_add-i c =
+pub overflow_add-i-then-is_member : goal.overflow_add-i-then-is_member
+overflow_add-i-then-is_member c =
     let x = c.args in
     let k = step x.decomposed x.s.now x.out.now c.loop-i.out c.loop-i.i c.loop-i.n _ _ c.loop-i.invariant c.loop-i-test.true c.read-sequence.ensures c.if-width-eq0.false in
     omega arith
@@ -100,17 +109,13 @@ loop-i-smaller c =
 pub loop-i-preserved : goal.loop-i-preserved
 loop-i-preserved c =
     let x = c.args in
-    again x.decomposed x.s.now x.out.now c.loop-i.out c.loop-i.i c.loop-i.n _ _ c.loop-i.invariant c.loop-i-test.true c.read-sequence.ensures c.if-width-eq0.false (sym c.if-is_member.true ∙ c.is_member.ensures) c.spread_point.result c.spread_point.ensures c.requires c.put-n.result c.put-n.new.out c.put-n.ensures.0 c.put-n.ensures.1
-
-pub returns-then-well_formed : goal.returns-then-well_formed
-returns-then-well_formed c =
-    let x = c.args in
-    returns-outside x.decomposed x.s.now x.out.now c.loop-i.out c.loop-i.i c.loop-i.n _ _ c.loop-i.invariant c.loop-i-test.true c.read-sequence.ensures c.if-width-eq0.false (sym c.if-is_member.false ∙ c.is_member.ensures) (sym c.well_formed-else-is_member.ensures ∙ c.if-well_formed.true)
+    again x.decomposed x.s.now x.out.now c.loop-i.out c.loop-i.i c.loop-i.n _ _ c.loop-i.invariant c.loop-i-test.true c.read-sequence.ensures c.if-width-eq0.false (sym c.if-is_member.true ∙ c.is_member.ensures) c.spread_point.result c.spread_point.ensures c.requires c.put-n-then-is_member.result c.put-n-then-is_member.new.out c.put-n-then-is_member.ensures.0 c.put-n-then-is_member.ensures.1
 
 pub returns-else-is_member : goal.returns-else-is_member
 returns-else-is_member c =
     let x = c.args in
-    returns-ill x.decomposed x.s.now x.out.now c.loop-i.out c.loop-i.i c.loop-i.n _ _ c.loop-i.invariant c.loop-i-test.true c.read-sequence.ensures c.if-width-eq0.false (sym c.if-is_member.false ∙ c.is_member.ensures) (sym c.well_formed-else-is_member.ensures ∙ c.if-well_formed.false)
+    rw c.fault_at.ensures
+    (returns-outside x.decomposed x.s.now x.out.now c.loop-i.out c.loop-i.i c.loop-i.n _ _ c.loop-i.invariant c.loop-i-test.true c.read-sequence.ensures c.if-width-eq0.false (sym c.if-is_member.false ∙ c.is_member.ensures))
 
 pub returns : goal.returns
 returns c =

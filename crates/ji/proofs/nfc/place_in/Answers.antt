@@ -1,5 +1,5 @@
 use mathlib.Core.Path.{◌≡◌, refl, sym, ap, ◌∙◌, subst}
-use mathlib.Core.List.{List, ◌++◌, append_assoc}
+use mathlib.Core.List.{List, [], ◌∷◌, ◌++◌, append_assoc}
 use Prim.Native.Nat.{ℕ, ◌-◌}
 use lib.ListN.{length, take, drop}
 use lib.Seq.{drop-append-le, take-append_seam}
@@ -11,11 +11,14 @@ use Rattle.ji.specs.Written.{Written}
 use Rattle.ji.specs.Nfd.{order, nfd}
 use Rattle.ji.specs.Nfc.{compose, nfc}
 use Rattle.ji.specs.Reply.{over, placed}
+use Rattle.ji.specs.Utf8.{encode}
+use Rattle.ji.specs.Normalising.{exchanged}
+use Rattle.ji.proofs.text.Laws.{replace-same-length}
 use Rattle.ji.proofs.Order.{order-length}
 use Rattle.ji.proofs.Writing.{written_from, written-drop, written_over}
 use Rattle.ji.proofs.Readings.{front}
 use native.Mathlib.Omega.{arith}
-use Rattle.ji.proofs.nfc.normalise_in.Goals as goal
+use Rattle.ji.proofs.nfc.place_in.Goals as goal
 
 abbrev t : Table
 t = unicode16
@@ -57,6 +60,17 @@ module _ (s before d : List ℕ) (n : ℕ) (w : Written before d n (full t s)) (
           ∙ ap (λ (u : List ℕ). nfc t s ++ u) (sym (drop-append-le (length (nfc t s)) (nfd t s) (drop (length (nfd t s)) before) (rw left.size left.fits)))),
     )
 
+  -- the front of the buffer, once the pair is exchanged in it
+  module _ (a b r : ℕ) (buffer part : List ℕ) (is-r : r ≡ length (nfc t s)) (is-buffer : buffer ≡ over (nfc t s) (over (nfd t s) before)) (is : part ≡ exchanged a b (take (r - 0) buffer)) where
+    exchanged-front : take (r - 0) (part ++ drop (r - 0) buffer) ≡ exchanged a b (nfc t s)
+    exchanged-front =
+        let front-is : take (r - 0) buffer ≡ nfc t s =
+            rw (is-buffer, is-r, sub-zero (length (nfc t s))) (take-append_seam (nfc t s) (drop (length (nfc t s)) (over (nfd t s) before))) in
+        let part-is : part ≡ exchanged a b (nfc t s) = is ∙ ap (exchanged a b) front-is in
+        let long : length part ≡ r - 0 =
+            ap length part-is ∙ replace-same-length (a ∷ b ∷ []) (b ∷ a ∷ []) (omega arith) refl (nfc t s) ∙ sym (sub-zero r ∙ is-r) in
+        rw (← long) (take-append_seam part (drop (length part) buffer)) ∙ part-is
+
 pub returns : goal.returns
 returns c =
     let a = c.args in
@@ -64,6 +78,6 @@ returns c =
     let o = c.order in
     let k = c.compose-m in
     let r = normalised a.s.now a.work.now d.new.out d.result d.ensures o.new.s o.ensures k.result k.new.s k.ensures.0 k.ensures.1 k.auto.s in
-    c.place_points.ensures
-    ∙ ap (λ (u : List ℕ). placed 0 u a.out.now)
-    (rw (r.1, r.0, sub-zero (length (nfc t a.s.now))) (take-append_seam (nfc t a.s.now) (drop (length (nfc t a.s.now)) (over (nfd t a.s.now) a.work.now))))
+    c.place.ensures
+    ∙ ap (λ (u : List ℕ). placed 0 (encode u) a.out.now)
+    (exchanged-front a.s.now a.work.now d.new.out d.result d.ensures o.new.s o.ensures a.a a.b k.result _ c.replace_pair.new.s r.0 r.1 c.replace_pair.ensures)
