@@ -3,3 +3,4 @@ pub mod Reader
 pub mod Checked
 pub mod Ascii
 pub mod Bytes
+pub mod Replied

@@ -9,11 +9,11 @@ ghost use Rattle.ucd.specs.Full.{full};
 ghost use Rattle.ji.specs.Text.{allAscii};
 ghost use Rattle.ji.specs.Utf8.{decode, lastStart, lastPoint};
 ghost use Rattle.ji.specs.Written.{Written};
-ghost use Rattle.ji.specs.Reply.{checkPoints, checkWithin, verdictOf};
+ghost use Rattle.ji.specs.Reply.{placed, checkPoints, checkWithin, verdictOf};
 ghost use Rattle.ji.specs.Reading.{spreadText, faultIn, Reading, Counting, pointsReply, pointsCall};
 
 use crate::reply::Refusal;
-use crate::utf8;
+use crate::{text, utf8};
 use ucd::Mapping;
 
 // A number of bytes.
@@ -206,16 +206,35 @@ fn count_points(s: &[u8]) -> Decoded
     Decoded::Points(CharLen(n))
 }
 
-// The code points of `text`, as they are, in `out`. They are counted first, so that a refusal writes nothing.
-pub fn points(text: &[u8], out: &mut [u16]) -> Decoded
+// Writes the code points `s` to `out`, if there is room for all of them.
+fn place_points(s: &[u16], out: &mut [u16]) -> Decoded
+    ensures { pointsReply result out.new ≡ placed 0 s.now out.old }
+{
+    if out.len() < s.len() {
+        return Decoded::Refused(Refusal::NoRoom);
+    }
+    Decoded::Points(CharLen(text::put(s, out, 0)))
+}
+
+// The code points of a short text, read into a buffer of our own first, so that a refusal writes nothing.
+fn short_points(text: &[u8], out: &mut [u16]) -> Decoded
+    requires { length text.now ≤ 16 }
     ensures { pointsReply result out.new ≡ pointsCall unicode16 text.now out.old }
 {
-    if is_ascii(text) {
-        if out.len() < text.len() {
-            return Decoded::Refused(Refusal::NoRoom);
+    let mut read = [0u16; 24];
+    match decode(text, false, &mut read) {
+        Decoded::Refused(why) => Decoded::Refused(why),
+        Decoded::Points(len) => {
+            let n = len.0;
+            place_points(&read[0..n], out)
         }
-        return Decoded::Points(CharLen(widen(text, out)));
     }
+}
+
+// The code points of any text, counted first, so that a refusal writes nothing.
+fn long_points(text: &[u8], out: &mut [u16]) -> Decoded
+    ensures { pointsReply result out.new ≡ pointsCall unicode16 text.now out.old }
+{
     match count_points(text) {
         Decoded::Refused(why) => Decoded::Refused(why),
         Decoded::Points(len) => {
@@ -225,6 +244,22 @@ pub fn points(text: &[u8], out: &mut [u16]) -> Decoded
             decode(text, false, out)
         }
     }
+}
+
+// The code points of `text`, as they are, in `out`.
+pub fn points(text: &[u8], out: &mut [u16]) -> Decoded
+    ensures { pointsReply result out.new ≡ pointsCall unicode16 text.now out.old }
+{
+    if is_ascii(text) {
+        if out.len() < text.len() {
+            return Decoded::Refused(Refusal::NoRoom);
+        }
+        return Decoded::Points(CharLen(widen(text, out)));
+    }
+    if text.len() <= 16 {
+        return short_points(text, out);
+    }
+    long_points(text, out)
 }
 
 // Whether the bytes `s` are a text of the table, or which of the two refusals they get.

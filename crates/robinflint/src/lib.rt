@@ -26,6 +26,7 @@ use khiin_entries::key_sequence;
 use khiin_records::{alignment, from_composed, from_raw};
 
 // The text without its tone marks, in NFD, and its tone. Refuses with 2, 3, 4, 7.
+#[inline(always)]
 pub fn rf_strip(text: &[u8], out: &mut [u8]) -> Reply
     ensures { replyOf result out.new ≡ stripCall unicode16 text.now out.old }
 {
@@ -48,6 +49,7 @@ pub fn rf_strip(text: &[u8], out: &mut [u8]) -> Reply
 }
 
 // Where the tone letter of the text stands, in bytes: length 1 and the position, or length 0. Refuses with 2, 3, 4.
+#[inline(always)]
 pub fn rf_tone_letter(text: &[u8]) -> Reply
     ensures { replyOf result [] ≡ toneLetterCall unicode16 text.now }
 {
@@ -59,6 +61,7 @@ pub fn rf_tone_letter(text: &[u8]) -> Reply
 }
 
 // The record of raw keys. Refuses with 2, 4, 7.
+#[inline(always)]
 pub fn rf_from_raw(keys: &[u8], out: &mut [u8]) -> Reply
     ensures { replyOf result out.new ≡ fromRawCall keys.now out.old }
 {
@@ -66,6 +69,7 @@ pub fn rf_from_raw(keys: &[u8], out: &mut [u8]) -> Reply
 }
 
 // The record at the position of those that a composed syllable may be typed as, and how many there are. Refuses with 2, 3, 4, 6, 7.
+#[inline(always)]
 pub fn rf_candidate(text: &[u8], position: u64, out: &mut [u8]) -> Reply
     ensures { replyOf result out.new ≡ candidateCall unicode16 text.now position out.old }
 {
@@ -73,6 +77,7 @@ pub fn rf_candidate(text: &[u8], position: u64, out: &mut [u8]) -> Reply
 }
 
 // The record of the keys that were typed for the syllable `target`: length 0 is "no alignment". Refuses with 2, 4 for the keys, 2, 3, 4 for the target, 7.
+#[inline(always)]
 pub fn rf_align(keys: &[u8], target: &[u8], out: &mut [u8]) -> Reply
     ensures { replyOf result out.new ≡ alignCall unicode16 keys.now target.now out.old }
 {
@@ -80,6 +85,7 @@ pub fn rf_align(keys: &[u8], target: &[u8], out: &mut [u8]) -> Reply
 }
 
 // What a syllable record is written as. Refuses with 1, 2, 3, 4, 7.
+#[inline(always)]
 pub fn rf_compose(raw: &[u8], body: &[u8], tone: u64, khin: u64, out: &mut [u8]) -> Reply
     ensures { replyOf result out.new ≡ composeNumbered raw.now body.now tone khin out.old }
 {
@@ -99,6 +105,7 @@ pub fn rf_compose(raw: &[u8], body: &[u8], tone: u64, khin: u64, out: &mut [u8])
 }
 
 // What a text becomes when a key is typed. `keys` are those of the tones 2 3 5 6 7 8 9. Refuses with 1, 2, 3, 4, 7.
+#[inline(always)]
 pub fn rf_telex(text: &[u8], key: u64, mode: u64, keys: &[u8; 7], out: &mut [u8]) -> Reply
     ensures { replyOf result out.new ≡ telexNumbered text.now key mode keys.now out.old }
 {
@@ -118,6 +125,7 @@ pub fn rf_telex(text: &[u8], key: u64, mode: u64, keys: &[u8; 7], out: &mut [u8]
 }
 
 // The keying at the position of an entry's list of a kind, and how many the list has. Refuses with 1, 2, 3, 4, 5, 6, 7.
+#[inline(always)]
 pub fn rf_keying(entry: &[u8], kind: u64, position: u64, out: &mut [u8]) -> Reply
     ensures { replyOf result out.new ≡ keyingNumbered entry.now kind position out.old }
 {

@@ -25,6 +25,7 @@ pub struct Reply {
 }
 
 // A refusal: its number, and zeros.
+#[inline(always)]
 pub fn refuse(why: Refusal) -> Reply
     ensures { (buffer : List ℕ) → replyOf result buffer ≡ refused why buffer }
 {
@@ -40,6 +41,7 @@ pub fn refuse(why: Refusal) -> Reply
 }
 
 // A length, and a position.
+#[inline(always)]
 pub fn found(length: u64, position: u64) -> Reply
     ensures { replyOf result [] ≡ found length position }
 {
@@ -55,6 +57,7 @@ pub fn found(length: u64, position: u64) -> Reply
 }
 
 // A text in the lent buffer.
+#[inline(always)]
 pub fn text(answer: TextAnswer) -> Reply
     ensures { (buffer : List ℕ) → replyOf result buffer ≡ textReply answer buffer }
 {
@@ -73,6 +76,7 @@ pub fn text(answer: TextAnswer) -> Reply
 }
 
 // A syllable record, with its raw input in the lent buffer.
+#[inline(always)]
 pub fn syllable(answer: Recorded) -> Reply
     ensures { (buffer : List ℕ) → replyOf result buffer ≡ recordReply answer buffer }
 {
@@ -97,6 +101,7 @@ pub fn syllable(answer: Recorded) -> Reply
 }
 
 // A keying in the lent buffer, and how many its list has.
+#[inline(always)]
 pub fn keying(answer: Keying) -> Reply
     ensures { (buffer : List ℕ) → replyOf result buffer ≡ keyingReply answer buffer }
 {

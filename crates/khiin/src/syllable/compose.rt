@@ -561,6 +561,7 @@ pub(crate) fn compose_points(
 }
 
 // Reads the body and composes it.
+#[inline(always)]
 fn compose_body(
     raw: &[u8],
     body: &[u8],

@@ -1,0 +1,43 @@
+-- `unicode::long_points` meets its contract: what the count says of the text and its room is settled before a byte is written.
+use mathlib.Core.Path.{◌≡◌, sym, ap, ◌∙◌, subst}
+use mathlib.Core.Bool.{false}
+use mathlib.Core.List.{List}
+use Prim.Native.Nat.{ℕ, ◌≤◌}
+use native.Mathlib.Omega.{arith}
+use lib.ListN.{length}
+use Rattle.ucd.specs.Unicode16.{unicode16}
+use Rattle.ji.specs.Written.{Written}
+use Rattle.ji.specs.Utf8.{decode}
+use Rattle.ji.specs.Unicode.{accepted}
+use Rattle.ji.specs.Reply.{Reply, Checked, good, placed, checkPoints}
+use Rattle.ji.specs.Reading.{Reading, Counting, pointsReply, pointsOf, pointsCall}
+use Rattle.ji.specs.declared.unicode.CharLen.{CharLen}
+use Rattle.ji.specs.declared.unicode.Decoded.{Decoded}
+use Rattle.ji.specs.declared.unicode.Decoded.TheVariants.{Points, Refused}
+use Rattle.ji.proofs.Replies.{placed-not, placed-written}
+use Rattle.ji.proofs.unicode.Ascii.{ascii-good}
+use Rattle.ji.proofs.unicode.Checked.{good-same, good-not-bad}
+use Rattle.ji.proofs.unicode.Laws.{spread-plain}
+use Rattle.ji.proofs.unicode.Replied.{counted, reply, read}
+use Rattle.ji.proofs.unicode.long_points.Goals as goal
+
+pub returns-in-Refused : goal.returns-in-Refused
+returns-in-Refused c = reply c.args.text.now (counted c.args.text.now c.in-Refused.is c.count_points.ensures) c.args.out.now
+
+pub returns-then-out-len : goal.returns-then-out-len
+returns-then-out-len c =
+    let s = c.args.text.now in
+    let k = counted s c.in-Points.is c.count_points.ensures in
+    placed-not 0 k.0 c.args.out.now (omega (arith, k.3)) ∙ reply s k.1 c.args.out.now
+
+pub decode-requires : goal.decode-requires
+decode-requires c =
+    let s = c.args.text.now in
+    let k = counted s c.in-Points.is c.count_points.ensures in
+    omega (arith, k.3, ap length (spread-plain unicode16 (accepted unicode16 s) ∙ k.2))
+
+pub returns-else-out-len : goal.returns-else-out-len
+returns-else-out-len c =
+    let s = c.args.text.now in
+    let k = counted s c.in-Points.is c.count_points.ensures in
+    read s k.0 c.args.out.now c.decode.new.out k.1 c.decode.result c.decode.ensures ∙ reply s k.1 c.args.out.now

@@ -1,0 +1,43 @@
+-- `unicode::short_points` meets its contract: what was read is placed whole.
+use mathlib.Core.Path.{◌≡◌, sym, ap, ◌∙◌, subst}
+use mathlib.Core.Bool.{false}
+use mathlib.Core.List.{List}
+use Prim.Native.Nat.{ℕ, ◌≤◌}
+use native.Mathlib.Omega.{arith}
+use lib.ListN.{length}
+use Rattle.ucd.specs.Unicode16.{unicode16}
+use Rattle.ji.specs.Written.{Written}
+use Rattle.ji.specs.Utf8.{decode}
+use Rattle.ji.specs.Unicode.{accepted}
+use Rattle.ji.specs.Reply.{Reply, Checked, good, placed, checkPoints}
+use Rattle.ji.specs.Reading.{Reading, Counting, pointsReply, pointsOf, pointsCall}
+use Rattle.ji.specs.declared.unicode.CharLen.{CharLen}
+use Rattle.ji.specs.declared.unicode.Decoded.{Decoded}
+use Rattle.ji.specs.declared.unicode.Decoded.TheVariants.{Points, Refused}
+use Rattle.ji.proofs.Replies.{placed-not, placed-written}
+use Rattle.ji.proofs.unicode.Ascii.{ascii-good}
+use Rattle.ji.proofs.unicode.Checked.{good-same, good-not-bad}
+use Rattle.ji.proofs.unicode.Laws.{spread-plain}
+use Rattle.ji.proofs.Readings.{front, told}
+use Rattle.ji.proofs.Writing.{written-length}
+use Rattle.ji.proofs.unicode.Reader.{spread-room}
+use Rattle.ji.proofs.unicode.Replied.{reply}
+use Rattle.ji.proofs.unicode.short_points.Goals as goal
+
+pub decode-requires : goal.decode-requires
+decode-requires c = omega (arith, spread-room false c.args.text.now, c.requires)
+
+pub slice_bounds-place_points-end : goal.slice_bounds-place_points-end
+slice_bounds-place_points-end c =
+    let w = (told unicode16 _ _ _ false c.in-Points.is c.decode.ensures).2 in
+    omega (arith, w.fits, written-length w)
+
+pub returns-in-Refused : goal.returns-in-Refused
+returns-in-Refused c = reply c.args.text.now (told unicode16 _ _ _ false c.in-Refused.is c.decode.ensures).0 c.args.out.now
+
+pub returns-in-Points : goal.returns-in-Points
+returns-in-Points c =
+    let r = told unicode16 _ _ _ false c.in-Points.is c.decode.ensures in
+    c.place_points.ensures
+    ∙ ap (λ (l : List ℕ). placed 0 l c.args.out.now) (front r.2 ∙ spread-plain unicode16 r.0)
+    ∙ reply c.args.text.now r.1 c.args.out.now
