@@ -4,7 +4,7 @@ use mathlib.Core.List.{List, [], ◌∷◌, ◌++◌}
 use Prim.Native.Nat.{ℕ}
 use Rattle.ji.specs.Unicode.{unicode16, mappings16, classes16, mappingIn, classIn, decomposition, combiningClass, pass, passes, full, same, listed}
 use Rattle.ji.specs.Text.{points, lower, begins, replaceFrom, replaceAll}
-use Rattle.ji.specs.Utf8.{bytes_of, encode}
+use Rattle.ji.specs.Utf8.{bytesOf, encode}
 use Rattle.ji.specs.Nfd.{reorderable, insert, order, nfd}
 use Rattle.ji.specs.Lomaji.Strip.{markTone, isToneMark, withoutMarks, droppedMarks, lastTone, endsIn, unmarkedTone, stripped}
 use Rattle.ji.specs.Lomaji.Keys.{keyed, keys}
@@ -31,5 +31,5 @@ lists-right :
     ∷ (Numeric, (points "a " ++ boo, booBehind))
     ∷ (Numeric, ([], points "1" ∷ []))
     ∷ [])
-unfolding same mappingIn classIn decomposition combiningClass pass passes full unicode16 mappings16 classes16 listed lower begins replaceFrom replaceAll bytes_of encode reorderable insert order nfd markTone isToneMark withoutMarks droppedMarks lastTone endsIn unmarkedTone stripped keyed keys split holdsDot alone forms keyings
+unfolding same mappingIn classIn decomposition combiningClass pass passes full unicode16 mappings16 classes16 listed lower begins replaceFrom replaceAll bytesOf encode reorderable insert order nfd markTone isToneMark withoutMarks droppedMarks lastTone endsIn unmarkedTone stripped keyed keys split holdsDot alone forms keyings
 lists-right = (refl, (refl, (refl, (refl, (refl, (refl, (refl, tt)))))))

@@ -4,7 +4,7 @@ use mathlib.Core.List.{List, [], ◌∷◌}
 use Prim.Native.Nat.{ℕ}
 use Rattle.ji.specs.Unicode.{unicode16, mappings16, classes16, mappingIn, classIn, decomposition, combiningClass, pass, passes, full, same, listed}
 use Rattle.ji.specs.Text.{points, marked, lower, begins, replaceFrom, replaceAll, butLast, last}
-use Rattle.ji.specs.Utf8.{bytes_of, encode}
+use Rattle.ji.specs.Utf8.{bytesOf, encode}
 use Rattle.ji.specs.Nfd.{reorderable, insert, order, nfd}
 use Rattle.ji.specs.Lomaji.Strip.{markTone, isToneMark, withoutMarks, droppedMarks, lastTone, endsIn, unmarkedTone, stripped}
 use Rattle.ji.specs.Lomaji.Khin.{withoutKhin, khinIn}
@@ -33,7 +33,7 @@ ComposedRight [] = Unit {0}
 ComposedRight (e ∷ es) = (fromComposed unicode16 e.0 ≡ records e.2 e.3 e.1) × ComposedRight es
 
 composed-right : ComposedRight candidates
-unfolding same mappingIn classIn decomposition combiningClass pass passes full unicode16 mappings16 classes16 listed lower begins replaceFrom replaceAll bytes_of encode reorderable insert order nfd markTone isToneMark withoutMarks droppedMarks lastTone endsIn unmarkedTone stripped withoutKhin khinIn fromComposed
+unfolding same mappingIn classIn decomposition combiningClass pass passes full unicode16 mappings16 classes16 listed lower begins replaceFrom replaceAll bytesOf encode reorderable insert order nfd markTone isToneMark withoutMarks droppedMarks lastTone endsIn unmarkedTone stripped withoutKhin khinIn fromComposed
 composed-right = (refl, (refl, (refl, (refl, (refl, (refl, (refl, tt)))))))
 
 abbrev AlignedRight : List Aligned → Type 0
@@ -41,5 +41,5 @@ AlignedRight [] = Unit {0}
 AlignedRight (e ∷ es) = (aligned unicode16 e.0 e.1 ≡ e.2) × AlignedRight es
 
 aligned-right : AlignedRight alignments
-unfolding same mappingIn classIn decomposition combiningClass pass passes full unicode16 mappings16 classes16 listed lower begins replaceFrom replaceAll bytes_of encode reorderable insert order nfd markTone isToneMark withoutMarks droppedMarks lastTone endsIn unmarkedTone stripped withoutKhin khinIn fromComposed sharedPrefix longer nearest grows alignedWith aligned
+unfolding same mappingIn classIn decomposition combiningClass pass passes full unicode16 mappings16 classes16 listed lower begins replaceFrom replaceAll bytesOf encode reorderable insert order nfd markTone isToneMark withoutMarks droppedMarks lastTone endsIn unmarkedTone stripped withoutKhin khinIn fromComposed sharedPrefix longer nearest grows alignedWith aligned
 aligned-right = (refl, (refl, (refl, (refl, (refl, (refl, (refl, (refl, (refl, (refl, tt))))))))))

@@ -3,7 +3,7 @@ use mathlib.Core.Path.{◌≡◌, refl}
 use mathlib.Core.List.{[], ◌∷◌}
 use Rattle.ji.specs.Unicode.{unicode16}
 use Rattle.ji.specs.Text.{points, point}
-use Rattle.ji.specs.Utf8.{width_at, pointAt, decode_from, decode, bytes}
+use Rattle.ji.specs.Utf8.{widthAt, pointAt, decodeFrom, decode, bytes}
 use Rattle.ji.specs.Reply.{checkWithin, checkText, textCall}
 use Rattle.ji.specs.declared.tone.Tone.TheVariants.{T2}
 use Rattle.ji.specs.declared.lomaji.khin.Khin.TheVariants.{No}
@@ -14,9 +14,9 @@ use Rattle.examples.specs.Telex.{usual}
 use Rattle.examples.specs.Refusals.{bothBad, lentBack}
 
 both-bad : composeCall unicode16 (0xFF ∷ []) (bytes "漢") T2 No [] ≡ bothBad
-unfolding composeCall checkText checkWithin decode decode_from width_at pointAt
+unfolding composeCall checkText checkWithin decode decodeFrom widthAt pointAt
 both-bad = refl
 
-lent_back : telexCall unicode16 Telex usual (point "s") (0xFF ∷ []) (points "x") ≡ lentBack
-unfolding telexCall settingsFit textCall checkText checkWithin decode decode_from width_at pointAt
-lent_back = refl
+lent-back : telexCall unicode16 Telex usual (point "s") (0xFF ∷ []) (points "x") ≡ lentBack
+unfolding telexCall settingsFit textCall checkText checkWithin decode decodeFrom widthAt pointAt
+lent-back = refl

@@ -4,14 +4,14 @@ use mathlib.Core.List.{List, [], ◌∷◌, ◌++◌}
 use Prim.Native.Nat.{ℕ}
 use Rattle.ji.specs.Unicode.{unicode16, mappings16, classes16, exclusions16, mappingIn, classIn, decomposition, combiningClass, isComposite, compositeIn, composite, pass, passes, full, same, listed}
 use Rattle.ji.specs.Text.{points, marked, point, lower, begins, replaceFrom, replaceAll, butLast, last}
-use Rattle.ji.specs.Utf8.{bytes_of, encode}
+use Rattle.ji.specs.Utf8.{bytesOf, encode}
 use Rattle.ji.specs.Nfd.{reorderable, insert, order, nfd}
 use Rattle.ji.specs.Nfc.{behind, under, orKept, reversed, absorb, composeFrom, nfc}
 use Rattle.ji.specs.Nfc.{compose as composition}
 use Rattle.ji.specs.Lomaji.Strip.{markTone, isToneMark, withoutMarks, droppedMarks, lastTone, endsIn, unmarkedTone, stripped}
 use Rattle.ji.specs.Lomaji.ToneLetter.{firstPlace, searched, toneLetter, hasToneLetter}
 use Rattle.khiin.specs.Syllable.{isNasalEnd, endsNasal, nasalised, moved, spelled, encoded, mark_of, compose}
-use Rattle.khiin.specs.Converter.{keyToTone, sharedTone, ends_with, repeatsTone, opensNasal, opensDot, opensO, opensU, endsInStop, sharedOr, composedStep, step, telex}
+use Rattle.khiin.specs.Converter.{keyToTone, sharedTone, endsWith, repeatsTone, opensNasal, opensDot, opensO, opensU, endsInStop, sharedOr, composedStep, step, telex}
 use Rattle.khiin.specs.declared.converter.ToneKeys.{ToneKeys}
 use Rattle.khiin.specs.declared.converter.ToneMode.{ToneMode}
 use Rattle.khiin.specs.declared.converter.ToneMode.TheVariants.{Numeric, Telex}
@@ -22,17 +22,17 @@ Right mode keys [] = Unit {0}
 Right mode keys (e ∷ es) = (telex unicode16 mode keys e.1.0 e.0 ≡ e.1.1) × Right mode keys es
 
 usual-right : Right Telex usual withUsual
-unfolding same listed mappingIn classIn decomposition combiningClass isComposite compositeIn composite pass passes full unicode16 mappings16 classes16 exclusions16 lower begins replaceFrom replaceAll bytes_of encode reorderable insert order nfd behind under orKept reversed absorb composeFrom composition nfc markTone isToneMark withoutMarks droppedMarks lastTone endsIn unmarkedTone stripped firstPlace searched toneLetter hasToneLetter last butLast isNasalEnd endsNasal nasalised moved spelled encoded mark_of compose keyToTone sharedTone ends_with repeatsTone opensNasal opensDot opensO opensU endsInStop sharedOr composedStep step telex
+unfolding same listed mappingIn classIn decomposition combiningClass isComposite compositeIn composite pass passes full unicode16 mappings16 classes16 exclusions16 lower begins replaceFrom replaceAll bytesOf encode reorderable insert order nfd behind under orKept reversed absorb composeFrom composition nfc markTone isToneMark withoutMarks droppedMarks lastTone endsIn unmarkedTone stripped firstPlace searched toneLetter hasToneLetter last butLast isNasalEnd endsNasal nasalised moved spelled encoded mark_of compose keyToTone sharedTone endsWith repeatsTone opensNasal opensDot opensO opensU endsInStop sharedOr composedStep step telex
 usual-right = (refl, (refl, (refl, (refl, (refl, (refl, (refl, (refl, (refl, (refl, (refl, (refl, (refl, (refl, (refl, (refl, (refl, (refl, (refl, (refl, tt))))))))))))))))))))
 
 digits-right : Right Numeric usual withDigits
-unfolding same listed mappingIn classIn decomposition combiningClass isComposite compositeIn composite pass passes full unicode16 mappings16 classes16 exclusions16 lower begins replaceFrom replaceAll bytes_of encode reorderable insert order nfd behind under orKept reversed absorb composeFrom composition nfc markTone isToneMark withoutMarks droppedMarks lastTone endsIn unmarkedTone stripped firstPlace searched toneLetter hasToneLetter last butLast isNasalEnd endsNasal nasalised moved spelled encoded mark_of compose keyToTone sharedTone ends_with repeatsTone opensNasal opensDot opensO opensU endsInStop sharedOr composedStep step telex
+unfolding same listed mappingIn classIn decomposition combiningClass isComposite compositeIn composite pass passes full unicode16 mappings16 classes16 exclusions16 lower begins replaceFrom replaceAll bytesOf encode reorderable insert order nfd behind under orKept reversed absorb composeFrom composition nfc markTone isToneMark withoutMarks droppedMarks lastTone endsIn unmarkedTone stripped firstPlace searched toneLetter hasToneLetter last butLast isNasalEnd endsNasal nasalised moved spelled encoded mark_of compose keyToTone sharedTone endsWith repeatsTone opensNasal opensDot opensO opensU endsInStop sharedOr composedStep step telex
 digits-right = (refl, (refl, tt))
 
 shared-right : Right Telex shared withShared
-unfolding same listed mappingIn classIn decomposition combiningClass isComposite compositeIn composite pass passes full unicode16 mappings16 classes16 exclusions16 lower begins replaceFrom replaceAll bytes_of encode reorderable insert order nfd behind under orKept reversed absorb composeFrom composition nfc markTone isToneMark withoutMarks droppedMarks lastTone endsIn unmarkedTone stripped firstPlace searched toneLetter hasToneLetter last butLast isNasalEnd endsNasal nasalised moved spelled encoded mark_of compose keyToTone sharedTone ends_with repeatsTone opensNasal opensDot opensO opensU endsInStop sharedOr composedStep step telex
+unfolding same listed mappingIn classIn decomposition combiningClass isComposite compositeIn composite pass passes full unicode16 mappings16 classes16 exclusions16 lower begins replaceFrom replaceAll bytesOf encode reorderable insert order nfd behind under orKept reversed absorb composeFrom composition nfc markTone isToneMark withoutMarks droppedMarks lastTone endsIn unmarkedTone stripped firstPlace searched toneLetter hasToneLetter last butLast isNasalEnd endsNasal nasalised moved spelled encoded mark_of compose keyToTone sharedTone endsWith repeatsTone opensNasal opensDot opensO opensU endsInStop sharedOr composedStep step telex
 shared-right = (refl, (refl, tt))
 
 upper-right : Right Telex upper withUpper
-unfolding same listed mappingIn classIn decomposition combiningClass isComposite compositeIn composite pass passes full unicode16 mappings16 classes16 exclusions16 lower begins replaceFrom replaceAll bytes_of encode reorderable insert order nfd behind under orKept reversed absorb composeFrom composition nfc markTone isToneMark withoutMarks droppedMarks lastTone endsIn unmarkedTone stripped firstPlace searched toneLetter hasToneLetter last butLast isNasalEnd endsNasal nasalised moved spelled encoded mark_of compose keyToTone sharedTone ends_with repeatsTone opensNasal opensDot opensO opensU endsInStop sharedOr composedStep step telex
+unfolding same listed mappingIn classIn decomposition combiningClass isComposite compositeIn composite pass passes full unicode16 mappings16 classes16 exclusions16 lower begins replaceFrom replaceAll bytesOf encode reorderable insert order nfd behind under orKept reversed absorb composeFrom composition nfc markTone isToneMark withoutMarks droppedMarks lastTone endsIn unmarkedTone stripped firstPlace searched toneLetter hasToneLetter last butLast isNasalEnd endsNasal nasalised moved spelled encoded mark_of compose keyToTone sharedTone endsWith repeatsTone opensNasal opensDot opensO opensU endsInStop sharedOr composedStep step telex
 upper-right = (refl, (refl, tt))

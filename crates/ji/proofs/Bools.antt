@@ -14,11 +14,11 @@ use Rattle.ji.specs.Text.{within}
 pub false-true : false ≡ true → ⊥
 false-true e = let z : ◌≡◌ {A = ℕ} 0 1 = cc in omega arith
 
-pub and_no : (a b : Bool) → a ≡ false → (a && b) ≡ false
-and_no a b e = ap (λ (x : Bool). x && b) e
+pub and-no : (a b : Bool) → a ≡ false → (a && b) ≡ false
+and-no a b e = ap (λ (x : Bool). x && b) e
 
-pub and_yes : (a b : Bool) → a ≡ true → (a && b) ≡ b
-and_yes a b e = ap (λ (x : Bool). x && b) e
+pub and-yes : (a b : Bool) → a ≡ true → (a && b) ≡ b
+and-yes a b e = ap (λ (x : Bool). x && b) e
 
 pub and-false : (a : Bool) → (a && false) ≡ false
 and-false true = refl
@@ -28,19 +28,19 @@ pub and-true : (a : Bool) → (a && true) ≡ a
 and-true true = refl
 and-true false = refl
 
-pub and_left : (a b : Bool) → (a && b) ≡ true → a ≡ true
-and_left true b e = refl
-and_left false b e = e
+pub and-left : (a b : Bool) → (a && b) ≡ true → a ≡ true
+and-left true b e = refl
+and-left false b e = e
 
-pub and_right : (a b : Bool) → (a && b) ≡ true → b ≡ true
-and_right true b e = e
-and_right false b e = absurd (false-true e)
+pub and-right : (a b : Bool) → (a && b) ≡ true → b ≡ true
+and-right true b e = e
+and-right false b e = absurd (false-true e)
 
-pub or_yes : (a b : Bool) → a ≡ true → (a || b) ≡ true
-or_yes a b e = ap (λ (x : Bool). x || b) e
+pub or-yes : (a b : Bool) → a ≡ true → (a || b) ≡ true
+or-yes a b e = ap (λ (x : Bool). x || b) e
 
-pub or_no : (a b : Bool) → a ≡ false → (a || b) ≡ b
-or_no a b e = ap (λ (x : Bool). x || b) e
+pub or-no : (a b : Bool) → a ≡ false → (a || b) ≡ b
+or-no a b e = ap (λ (x : Bool). x || b) e
 
 pub or-false : (a : Bool) → (a || false) ≡ a
 or-false true = refl
@@ -59,13 +59,13 @@ pub text-no : (b : Bool) (x y : List ℕ) → b ≡ false → pickText b x y ≡
 text-no b x y e = ap (λ (t : Bool). pickText t x y) e
 
 pub within-yes : (lo hi x : ℕ) → lo ≤ x → x ≤ hi → within lo hi x ≡ true
-within-yes lo hi x h k = and_yes _ _ (le-leb _ _ h) ∙ le-leb _ _ k
+within-yes lo hi x h k = and-yes _ _ (le-leb _ _ h) ∙ le-leb _ _ k
 
 pub within-below : (lo hi x : ℕ) → x < lo → within lo hi x ≡ false
-within-below lo hi x h = and_no _ _ (lt-leb _ _ h)
+within-below lo hi x h = and-no _ _ (lt-leb _ _ h)
 
 pub within-above : (lo hi x : ℕ) → hi < x → within lo hi x ≡ false
 within-above lo hi x h = ap (λ (b : Bool). leb lo x && b) (lt-leb _ _ h) ∙ and-false (leb lo x)
 
 pub within-is : (lo hi x : ℕ) → within lo hi x ≡ true → (lo ≤ x) × (x ≤ hi)
-within-is lo hi x e = (leb-true lo x (and_left (leb lo x) (leb x hi) e), leb-true x hi (and_right (leb lo x) (leb x hi) e))
+within-is lo hi x e = (leb-true lo x (and-left (leb lo x) (leb x hi) e), leb-true x hi (and-right (leb lo x) (leb x hi) e))

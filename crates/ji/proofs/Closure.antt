@@ -32,6 +32,3 @@ nfc-inside-16 = nfc-inside unicode16 unicode16-good
 
 pub nfd-nfc-16 : (s : List ℕ) → nfd unicode16 (nfc unicode16 s) ≡ nfd unicode16 s
 nfd-nfc-16 = laws.nfd-nfc unicode16 unicode16-facts
-
-pub nfc-nfc-16 : (s : List ℕ) → nfc unicode16 (nfc unicode16 s) ≡ nfc unicode16 s
-nfc-nfc-16 = laws.nfc-nfc unicode16 unicode16-facts

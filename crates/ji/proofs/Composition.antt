@@ -11,7 +11,7 @@ use borrow.Author.Tests.{lt-ltb, ltb-true, eqb-true, eqb-false, eq-eqb, ne_eqb}
 use Rattle.ucd.specs.Table.{Table, All, combiningClass, composite}
 use Rattle.ucd.proofs.Tests.{either}
 use Rattle.ji.specs.Nfc.{behind, under, orKept, reversed, Unblocked, Replaces, Composes, end, replaced, kept, absorb, composeFrom, compose}
-use Rattle.ji.proofs.Cases.{by_answer, none-not-some}
+use Rattle.ji.proofs.Cases.{by-answer, none-not-some}
 
 -- `reversed` of a text's parts, and twice
 pub reversed-cons : (c : ℕ) (s : List ℕ) → reversed (c ∷ s) ≡ reversed s ++ (c ∷ [])
@@ -37,14 +37,14 @@ reversed-reversed [] = refl
 reversed-reversed (c ∷ s) = reversed-snoc (reversed s) c ∙ ap (λ (l : List ℕ). c ∷ l) (reversed-reversed s)
 
 -- what holds of each code point of two texts holds of each of the two joined, and of a text reversed
-pub all_append : (P : ℕ → Type 0) (s u : List ℕ) → All P s → All P u → All P (s ++ u)
-all_append P [] u h k = k
-all_append P (c ∷ s) u h k = (h.0, all_append P s u h.1 k)
+pub all-append : (P : ℕ → Type 0) (s u : List ℕ) → All P s → All P u → All P (s ++ u)
+all-append P [] u h k = k
+all-append P (c ∷ s) u h k = (h.0, all-append P s u h.1 k)
 
 pub all-reversed : (P : ℕ → Type 0) (s : List ℕ) → All P s → All P (reversed s)
 unfolding reversed
 all-reversed P [] h = tt
-all-reversed P (c ∷ s) h = all_append P (reversed s) (c ∷ []) (all-reversed P s h.1) (h.0, tt)
+all-reversed P (c ∷ s) h = all-append P (reversed s) (c ∷ []) (all-reversed P s h.1) (h.0, tt)
 
 -- what an answer was made of
 behind-some : (o : Option ℕ) (r q : List ℕ) → behind o r ≡ some q → (p : ℕ) × (o ≡ some p) × (p ∷ r ≡ q)
@@ -52,10 +52,10 @@ unfolding behind
 behind-some none r q e = absurd (none-not-some refl e)
 behind-some (some p) r q e = (p, refl, (cc))
 
-under_some : (b : ℕ) (o : Option (List ℕ)) (q : List ℕ) → under b o ≡ some q → (r : List ℕ) × (o ≡ some r) × (b ∷ r ≡ q)
+under-some : (b : ℕ) (o : Option (List ℕ)) (q : List ℕ) → under b o ≡ some q → (r : List ℕ) × (o ≡ some r) × (b ∷ r ≡ q)
 unfolding under
-under_some b none q e = absurd (none-not-some refl e)
-under_some b (some r) q e = (r, refl, (cc))
+under-some b none q e = absurd (none-not-some refl e)
+under-some b (some r) q e = (r, refl, (cc))
 
 module _ (t : Table) where
   -- R1 and R2 over what is done, last code point first: c joins a starter, or goes on past a mark that does not block it
@@ -71,7 +71,7 @@ module _ (t : Table) where
       either (eqb (combiningClass t b) 0)
       (λ z. starter z (behind-some (composite t b c) r q (rw z at e)))
       (λ z. either (ltb (combiningClass t b) (combiningClass t c))
-      (λ l. mark z l (absorb-absorbs c r) (under_some b (absorb t c r) q (rw (z, l) at e)))
+      (λ l. mark z l (absorb-absorbs c r) (under-some b (absorb t c r) q (rw (z, l) at e)))
       (λ l. absurd (none-not-some refl (rw (z, l) at e))))
     where
       starter : eqb (combiningClass t b) 0 ≡ true → (p : ℕ) × (composite t b c ≡ some p) × (p ∷ r ≡ q) → Absorbs c (b ∷ r) q
@@ -101,7 +101,7 @@ module _ (t : Table) where
         is = rw h.is (append_assoc h.before (h.starter ∷ h.between) (b ∷ []));
         class = h.class;
         unblocked =
-            all_append (λ b. (0 < combiningClass t b) × (combiningClass t b < combiningClass t c)) h.between (b ∷ []) h.unblocked ((low, high), tt);
+            all-append (λ b. (0 < combiningClass t b) × (combiningClass t b < combiningClass t c)) h.between (b ∷ []) h.unblocked ((low, high), tt);
         primary = h.primary;
         becomes = rw h.becomes (append_assoc h.before (h.point ∷ h.between) (b ∷ []));
       }
@@ -137,7 +137,7 @@ module _ (t : Table) where
 
   -- a starter that is no composite's second code point stays
   pub absorb-starter : (c : ℕ) → combiningClass t c ≡ 0 → ((l p : ℕ) → composite t l c ≡ some p → ⊥) → (r : List ℕ) → absorb t c r ≡ none
-  absorb-starter c z n r = by_answer (absorb t c r) (λ e. e) (λ q e. absurd (never (absorb-absorbs c r q e)))
+  absorb-starter c z n r = by-answer (absorb t c r) (λ e. e) (λ q e. absurd (never (absorb-absorbs c r q e)))
     where
       never : {r q : List ℕ} → Absorbs c r q → ⊥
       never (joins {l} {p} y e) = n l p e
@@ -163,7 +163,7 @@ module _ (t : Table) where
       → (s r : List ℕ) → Q r s → Q (composeFrom t r s) []
   compose-keeps Q stays joined [] r h = rw compose-nil h
   compose-keeps Q stays joined (c ∷ s) r h =
-      by_answer (absorb t c r)
+      by-answer (absorb t c r)
       (λ e. rw (compose-kept c r s e) (compose-keeps Q stays joined s (c ∷ r) (stays c r s e h)))
       (λ q e. rw (compose-absorbed c r q s e) (compose-keeps Q stays joined s q (joined c r q s (absorb-absorbs c r q e) h)))
 
@@ -171,7 +171,7 @@ module _ (t : Table) where
   from-sound : (s done r : List ℕ) → r ≡ reversed done → Composes t done s (reversed (composeFrom t r s))
   from-sound [] done r e = rw (compose-nil, e, reversed-reversed) end
   from-sound (c ∷ s) done r e =
-      by_answer (absorb t c (reversed done))
+      by-answer (absorb t c (reversed done))
       (λ z. rw (e, compose-kept c (reversed done) s z)
       (kept (λ done' h. none-not-some z (absorb-complete c done done' h))
       (from-sound s (done ++ (c ∷ [])) (c ∷ reversed done) (sym (reversed-snoc done c)))))
@@ -191,7 +191,7 @@ module _ (t : Table) where
       from-only x ∙ ap reversed (ap (λ (l : List ℕ). composeFrom t l s) (reversed-snoc done c) ∙ sym (compose-kept c (reversed done) s stays))
     where
       stays : absorb t c (reversed done) ≡ none
-      stays = by_answer (absorb t c (reversed done)) (λ e. e) (λ q e. absurd (h (reversed q) (absorb-sound c done q e)))
+      stays = by-answer (absorb t c (reversed done)) (λ e. e) (λ q e. absurd (h (reversed q) (absorb-sound c done q e)))
 
   pub compose-only : (s r : List ℕ) → Composes t [] s r → r ≡ compose t s
   unfolding compose reversed

@@ -6,7 +6,7 @@ use mathlib.Core.Option.{some}
 use Prim.Native.Nat.{ℕ, zero, suc}
 use Rattle.ucd.specs.Table.{Table, All, Atom, decomposition, composite}
 use Rattle.ucd.specs.Full.{pass, passes, full, Facts}
-use Rattle.ji.proofs.Composition.{all_append}
+use Rattle.ji.proofs.Composition.{all-append}
 
 module _ (t : Table) where
   -- one pass, and any number
@@ -15,10 +15,10 @@ module _ (t : Table) where
   pass-append [] u = refl
   pass-append (c ∷ s) u = rw (pass-append s u) (sym (append_assoc (decomposition t c) (pass t s) (pass t u)))
 
-  passes_append : (n : ℕ) (s u : List ℕ) → passes t n (s ++ u) ≡ passes t n s ++ passes t n u
+  passes-append : (n : ℕ) (s u : List ℕ) → passes t n (s ++ u) ≡ passes t n s ++ passes t n u
   unfolding passes
-  passes_append zero s u = refl
-  passes_append (suc n) s u = rw (pass-append s u) (passes_append n (pass t s) (pass t u))
+  passes-append zero s u = refl
+  passes-append (suc n) s u = rw (pass-append s u) (passes-append n (pass t s) (pass t u))
 
   passes-pass : (n : ℕ) (s : List ℕ) → passes t n (pass t s) ≡ pass t (passes t n s)
   unfolding passes
@@ -47,7 +47,7 @@ module _ (t : Table) where
 
   pub full-append : (s u : List ℕ) → full t (s ++ u) ≡ full t s ++ full t u
   unfolding full
-  full-append s u = passes_append t.depth s u
+  full-append s u = passes-append t.depth s u
 
   pub full-cons : (c : ℕ) (s : List ℕ) → full t (c ∷ s) ≡ full t (c ∷ []) ++ full t s
   full-cons c s = full-append (c ∷ []) s
@@ -60,17 +60,13 @@ module _ (t : Table) where
   -- what holds of the decomposition of each code point holds of the text's
   pub full-all : (P Q : ℕ → Type 0) → ((c : ℕ) → P c → All Q (full t (c ∷ []))) → (s : List ℕ) → All P s → All Q (full t s)
   full-all P Q each [] h = rw full-nil tt
-  full-all P Q each (c ∷ s) h = rw (full-cons c s) (all_append Q (full t (c ∷ [])) (full t s) (each c h.0) (full-all P Q each s h.1))
+  full-all P Q each (c ∷ s) h = rw (full-cons c s) (all-append Q (full t (c ∷ [])) (full t s) (each c h.0) (full-all P Q each s h.1))
 
   module _ (F : Facts t) where
     -- nothing of a full decomposition decomposes further
     pub full-is-atoms : (s : List ℕ) → All (Atom t) (full t s)
     full-is-atoms [] = rw full-nil tt
-    full-is-atoms (c ∷ s) = rw (full-cons c s) (all_append (Atom t) (full t (c ∷ [])) (full t s) (F.atoms c) (full-is-atoms s))
-
-    -- decomposing again changes nothing
-    pub full-full : (s : List ℕ) → full t (full t s) ≡ full t s
-    full-full s = full-atoms (full t s) (full-is-atoms s)
+    full-is-atoms (c ∷ s) = rw (full-cons c s) (all-append (Atom t) (full t (c ∷ [])) (full t s) (F.atoms c) (full-is-atoms s))
 
     -- a composite decomposes as the two that it is made of
     pub full-composite : (a b p : ℕ) → composite t a b ≡ some p → full t (p ∷ []) ≡ full t (a ∷ b ∷ [])

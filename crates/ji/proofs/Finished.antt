@@ -11,7 +11,7 @@ use lib.Dec.{T, ltb, leb, leb→le, ltb→lt}
 use Rattle.ucd.specs.Table.{Table, mappingIn, classIn, decomposition, combiningClass, composite}
 use Rattle.ucd.specs.Full.{Facts}
 use Rattle.ucd.specs.Unicode16.{unicode16, mappings16, classes16}
-use Rattle.ucd.proofs.Tests.{both_left, both_right}
+use Rattle.ucd.proofs.Tests.{both-left, both-right}
 use Rattle.ucd.proofs.Lists.{eachMapping, mapping-passes}
 use Rattle.ucd.proofs.Facts.{two-not-one}
 use Rattle.ucd.proofs.Unicode16.{unicode16-facts}
@@ -100,10 +100,10 @@ module _ (t : Table) where
     unfolding risesTo
     rising =
         record {
-          mark = λ a b p e. ltb→lt 0 (combiningClass t b) (both_left (ltb 0 (combiningClass t b)) (risesTo b (decomposition t a)) (pair-rises a b p e));
+          mark = λ a b p e. ltb→lt 0 (combiningClass t b) (both-left (ltb 0 (combiningClass t b)) (risesTo b (decomposition t a)) (pair-rises a b p e));
           rising = λ l c p b q e f.
               leb→le (combiningClass t c) (combiningClass t b)
-              (rw (F.decomposes l c p e) at (both_right (ltb 0 (combiningClass t b)) (risesTo b (decomposition t p)) (pair-rises p b q f)));
+              (rw (F.decomposes l c p e) at (both-right (ltb 0 (combiningClass t b)) (risesTo b (decomposition t p)) (pair-rises p b q f)));
         }
 
 -- the table of Unicode 16.0 passes it

@@ -44,8 +44,8 @@ module _ (t : Table) where
       rw (full-atoms t (b ∷ c ∷ []) (hb, (hc, tt)), full-atoms t (c ∷ b ∷ []) (hc, (hb, tt))) (sym (order-exchanges t (more (here h) none)))
 
   -- a turn of the composition that keeps c keeps the NFD
-  kept_same : (n : List ℕ) (c : ℕ) (r u : List ℕ) → Same t n r (c ∷ u) → Same t n (c ∷ r) u
-  kept_same n c r u k = (k.0.1, ((λ z. k.0.0), k.1), rw (reversed-cons c r, append_assoc (reversed r) (c ∷ []) u) k.2)
+  kept-same : (n : List ℕ) (c : ℕ) (r u : List ℕ) → Same t n r (c ∷ u) → Same t n (c ∷ r) u
+  kept-same n c r u k = (k.0.1, ((λ z. k.0.0), k.1), rw (reversed-cons c r, append_assoc (reversed r) (c ∷ []) u) k.2)
 
   module _ (F : Facts t) where
     -- nothing of an NFD decomposes
@@ -79,8 +79,8 @@ module _ (t : Table) where
     absorbs-settled c h (past low high x) = (h.0, absorbs-settled c h.1 x)
 
     -- so a turn that absorbs c keeps the NFD
-    joined_same : (n : List ℕ) (c : ℕ) (r q u : List ℕ) → Absorbs t c r q → Same t n r (c ∷ u) → Same t n q u
-    joined_same n c r q u x k = (
+    joined-same : (n : List ℕ) (c : ℕ) (r q u : List ℕ) → Absorbs t c r q → Same t n r (c ∷ u) → Same t n q u
+    joined-same n c r q u x k = (
       k.0.1,
       absorbs-settled c k.1 x,
       same-append (reversed q) (reversed r ++ (c ∷ [])) u u (sym (same-absorbs c k.0.0 k.1 x)) refl
@@ -92,7 +92,7 @@ module _ (t : Table) where
     unfolding compose reversed
     nfd-compose s h =
         ap (nfd t) (sym (append-nil (compose t s)))
-        ∙ (compose-keeps t (Same t (nfd t s)) (λ c r u e k. kept_same (nfd t s) c r u k) (joined_same (nfd t s)) s [] (h, tt, refl)).2
+        ∙ (compose-keeps t (Same t (nfd t s)) (λ c r u e k. kept-same (nfd t s) c r u k) (joined-same (nfd t s)) s [] (h, tt, refl)).2
 
     -- each form forgets the other (UAX #15: NFD(NFC(s)) = NFD(s), NFC(NFD(s)) = NFC(s), NFC(NFC(s)) = NFC(s))
     pub nfd-nfc : (s : List ℕ) → nfd t (nfc t s) ≡ nfd t s

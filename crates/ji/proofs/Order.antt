@@ -12,7 +12,7 @@ use borrow.Author.Tests.{lt-ltb, ltb-true, eqb-true, ne_eqb}
 use Rattle.ucd.specs.Table.{Table, All, pickText, combiningClass}
 use Rattle.ucd.proofs.Tests.{either}
 use Rattle.ji.specs.Nfd.{Reorderable, reorderable, Exchange, here, there, Exchanges, none, more, NoPair, Ordered, insert, order, ofClass}
-use Rattle.ji.proofs.Cases.{and_both, true-not-false}
+use Rattle.ji.proofs.Cases.{and-both, true-not-false}
 
 module _ (t : Table) where
   -- the test of a pair is D108's condition
@@ -23,7 +23,7 @@ module _ (t : Table) where
   pub true-reorderable : (a b : ℕ) → reorderable t a b ≡ true → Reorderable t a b
   unfolding reorderable
   true-reorderable a b e =
-      let both = and_both (ltb 0 (combiningClass t b)) (ltb (combiningClass t b) (combiningClass t a)) e in
+      let both = and-both (ltb 0 (combiningClass t b)) (ltb (combiningClass t b) (combiningClass t a)) e in
       (ltb-true 0 (combiningClass t b) both.0, ltb-true (combiningClass t b) (combiningClass t a) both.1)
 
   pub reorderable-false : (a b : ℕ) → (Reorderable t a b → ⊥) → reorderable t a b ≡ false
@@ -33,8 +33,8 @@ module _ (t : Table) where
   false-reorderable a b e h = true-not-false (reorderable-true a b h) e
 
   -- a pair that is exchanged is not exchanged back
-  not_back : (a b : ℕ) → Reorderable t a b → reorderable t b a ≡ false
-  not_back a b h = reorderable-false b a (λ k. omega arith)
+  not-back : (a b : ℕ) → Reorderable t a b → reorderable t b a ≡ false
+  not-back a b h = reorderable-false b a (λ k. omega arith)
 
   -- the turns of an insertion: past the next code point, or here
   pub insert-nil : (a : ℕ) → insert t a [] ≡ a ∷ []
@@ -52,7 +52,7 @@ module _ (t : Table) where
   -- two code points that are exchanged may be inserted in either order
   insert-insert : (a b : ℕ) (h : Reorderable t a b) (s : List ℕ) → insert t a (insert t b s) ≡ insert t b (insert t a s)
   insert-insert a b h [] =
-      rw (insert-nil b, insert-nil a, insert-past a b [] (reorderable-true a b h), insert-here b a [] (not_back a b h), insert-nil a)
+      rw (insert-nil b, insert-nil a, insert-past a b [] (reorderable-true a b h), insert-here b a [] (not-back a b h), insert-nil a)
   insert-insert a b h (c ∷ s) =
       either (reorderable t b c)
       (λ e. rw (insert-past b c s e, insert-past a c s (further e), insert-past a c (insert t b s) (further e), insert-past b c (insert t a s) e)
@@ -66,7 +66,7 @@ module _ (t : Table) where
       stopped e =
           either (reorderable t a c)
           (λ f. rw (insert-past a c s f, insert-here b c (insert t a s) e))
-          (λ f. rw (insert-here a c s f, insert-here b a (c ∷ s) (not_back a b h)))
+          (λ f. rw (insert-here a c s f, insert-here b a (c ∷ s) (not-back a b h)))
 
   -- the order, from the last code point to the first
   pub order-nil : order t [] ≡ []
@@ -133,7 +133,7 @@ module _ (t : Table) where
   insert-ordered a (b ∷ s) h =
       either (reorderable t a b)
       (λ e. rw (insert-past a b s e)
-      (insert-no-pair b a s (false-reorderable b a (not_back a b (true-reorderable a b e))) h.0, insert-ordered a s h.1))
+      (insert-no-pair b a s (false-reorderable b a (not-back a b (true-reorderable a b e))) h.0, insert-ordered a s h.1))
       (λ e. rw (insert-here a b s e) (false-reorderable a b e, h))
 
   pub order-ordered : (s : List ℕ) → Ordered t (order t s)

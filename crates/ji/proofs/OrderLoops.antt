@@ -100,8 +100,8 @@ module _ (t : Table) where
     pub size : length s ≡ length s₀
     pub text : s ≡ take i s₀ ++ order t (drop i s₀)
 
-  pub sorting_start : (s : List ℕ) → Sorting s s (length s)
-  sorting_start s =
+  pub sorting-start : (s : List ℕ) → Sorting s s (length s)
+  sorting-start s =
       record { within = omega arith; size = refl; text = sym (rw (take-length s, drop-length s, order-nil t) (append-nil s)) }
 
   -- one more insertion

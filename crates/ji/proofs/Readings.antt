@@ -17,7 +17,7 @@ use Rattle.ji.specs.declared.reply.Refusal.TheVariants.{TooLong}
 use Rattle.ji.specs.declared.unicode.Decoded.{Decoded}
 use Rattle.ji.specs.declared.unicode.Decoded.TheVariants.{Points, Refused}
 use Rattle.ji.proofs.Bools.{text-yes, text-no}
-use Rattle.ji.proofs.Writing.{written-take, written_over}
+use Rattle.ji.proofs.Writing.{written-take, written-over}
 use Rattle.ji.proofs.Replies.{check-long, check-within}
 use Rattle.ji.proofs.Order.{order-length}
 
@@ -44,4 +44,4 @@ module _ (t : Table) (s before after : List ℕ) where
     unfolding nfd spread
     nfd-ordered n front' r e =
         let w = r.2 in
-        (r.0, check-within t s h ∙ r.1, rw (e, front w, sub-zero n) (written_over w (order t (spread t true r.0)) (order-length t (spread t true r.0) ∙ w.size)))
+        (r.0, check-within t s h ∙ r.1, rw (e, front w, sub-zero n) (written-over w (order t (spread t true r.0)) (order-length t (spread t true r.0) ∙ w.size)))

@@ -10,7 +10,7 @@ use borrow.Author.Tests.{le-leb, lt-leb}
 use Rattle.ucd.specs.Table.{Table}
 use Rattle.ji.specs.Written.{Written}
 use Rattle.ji.specs.Utf8.{decode, encode}
-use Rattle.ji.specs.Reply.{Reply, refusalNumber, refused, over, answered, pickReply, placed, Checked, good, bad, pickChecked, checkPoints, checkWithin, checkText, text_of, textCall}
+use Rattle.ji.specs.Reply.{Reply, refusalNumber, refused, over, answered, pickReply, placed, Checked, good, bad, pickChecked, checkPoints, checkWithin, checkText, textOf, textCall}
 use Rattle.ji.specs.declared.reply.Refusal.{Refusal}
 use Rattle.ji.specs.declared.reply.Refusal.TheVariants.{Argument, TooLong, IllFormed, OutsideTable, Parts, Position, NoRoom}
 
@@ -57,8 +57,8 @@ module _ (t : Table) (s : List ℕ) where
 module _ (t : Table) (f : List ℕ → List ℕ) (text buffer : List ℕ) where
   pub text-refused : (why : Refusal) → checkText t text ≡ bad why → refused why buffer ≡ textCall t f text buffer
   unfolding textCall
-  text-refused why e = sym (ap (λ (k : Checked). text_of f k buffer) e)
+  text-refused why e = sym (ap (λ (k : Checked). textOf f k buffer) e)
 
   pub text-good : (s : List ℕ) → checkText t text ≡ good s → placed 0 (encode (f s)) buffer ≡ textCall t f text buffer
   unfolding textCall
-  text-good s e = sym (ap (λ (k : Checked). text_of f k buffer) e)
+  text-good s e = sym (ap (λ (k : Checked). textOf f k buffer) e)

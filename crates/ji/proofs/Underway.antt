@@ -7,7 +7,7 @@ use native.Mathlib.Omega.{arith}
 use lib.ListN.{length, drop, get_or, set, length-append}
 use lib.Seq.{paste}
 use Rattle.ji.specs.Written.{Written}
-use Rattle.ji.proofs.Writing.{written_none, written_one, written-kept, written-run}
+use Rattle.ji.proofs.Writing.{written-none, written-one, written-kept, written-run}
 
 -- s is read up to i, and what F makes of that is written up to j
 pub record Underway (F : List ℕ → List ℕ) (s before after : List ℕ) (i j : ℕ) : Type 0 where
@@ -17,7 +17,7 @@ pub record Underway (F : List ℕ → List ℕ) (s before after : List ℕ) (i j
   pub rest : done ++ F (drop i s) ≡ F s
 
 pub underway-start : (F : List ℕ → List ℕ) (s before : List ℕ) → Underway F s before before 0 0
-underway-start F s before = record { inside = omega arith; done = []; written = written_none before; rest = refl }
+underway-start F s before = record { inside = omega arith; done = []; written = written-none before; rest = refl }
 
 module _ {F : List ℕ → List ℕ} {s before after : List ℕ} {i j : ℕ} (h : Underway F s before after i j) where
   -- one more piece u
@@ -35,7 +35,7 @@ module _ {F : List ℕ → List ℕ} {s before after : List ℕ} {i j : ℕ} (h 
   -- one more element, stored ..
   pub underway-one : (i' x : ℕ) → F (drop i s) ≡ x ∷ F (drop i' s) → i' ≤ length s → j < length before → Underway F s before (set after j x) i' (j + 1)
   underway-one i' x piece inside room =
-      record { inside = inside; done = h.done ++ (x ∷ []); written = written_one h.written x room; rest = rest-behind i' (x ∷ []) piece }
+      record { inside = inside; done = h.done ++ (x ∷ []); written = written-one h.written x room; rest = rest-behind i' (x ∷ []) piece }
 
   -- .. or left as it was
   pub underway-kept : (i' : ℕ) → F (drop i s) ≡ get_or before j 0 ∷ F (drop i' s) → i' ≤ length s → j < length before → Underway F s before after i' (j + 1)

@@ -11,12 +11,12 @@ use lib.Seq.{drop-cons, set_at, append_snoc, take_at, drop_at, drop-drop, get_or
 use Rattle.ji.specs.Written.{Written, Covers}
 
 -- before the first store
-pub written_none : (before : List ℕ) → Written before before 0 []
-written_none before = record { is = refl; size = refl; fits = omega arith }
+pub written-none : (before : List ℕ) → Written before before 0 []
+written-none before = record { is = refl; size = refl; fits = omega arith }
 
 -- a buffer that kept its length and has a text in front
-pub written_from : (before after : List ℕ) (n : ℕ) (s : List ℕ) → n ≡ length s → after ≡ s ++ drop n before → length after ≡ length before → Written before after n s
-written_from before after n s size is kept =
+pub written-from : (before after : List ℕ) (n : ℕ) (s : List ℕ) → n ≡ length s → after ≡ s ++ drop n before → length after ≡ length before → Written before after n s
+written-from before after n s size is kept =
     record { is = is; size = sym size; fits = omega (arith, length-append s (drop n before), length-drop n before, ap length is) }
 
 module _ {before after : List ℕ} {n : ℕ} {s : List ℕ} (h : Written before after n s) where
@@ -49,12 +49,12 @@ module _ {before after : List ℕ} {n : ℕ} {s : List ℕ} (h : Written before 
   written-whole full = h.is ∙ ap (λ (t : List ℕ). s ++ t) (drop_of_length-le before full) ∙ append-nil s
 
   -- what was written, replaced by a text as long
-  pub written_over : (t : List ℕ) → length t ≡ n → Written before (t ++ drop n after) n t
-  written_over t same = record { is = ap (λ (u : List ℕ). t ++ u) written-drop; size = same; fits = h.fits }
+  pub written-over : (t : List ℕ) → length t ≡ n → Written before (t ++ drop n after) n t
+  written-over t same = record { is = ap (λ (u : List ℕ). t ++ u) written-drop; size = same; fits = h.fits }
 
   -- one more element, stored ..
-  pub written_one : (x : ℕ) → n < length before → Written before (set after n x) (n + 1) (s ++ (x ∷ []))
-  written_one x more =
+  pub written-one : (x : ℕ) → n < length before → Written before (set after n x) (n + 1) (s ++ (x ∷ []))
+  written-one x more =
       record {
         is = ap (λ (t : List ℕ). set t n x) h.is
             ∙ ap (λ (t : List ℕ). set (s ++ t) n x) (drop-cons before n 0 more)
@@ -90,9 +90,9 @@ module _ {before after : List ℕ} {n : ℕ} {s : List ℕ} (h : Written before 
       }
 
   -- a text more, that was written to the part of the buffer behind it
-  pub written_behind : {part : List ℕ} {m : ℕ} {r : List ℕ} → Written (take (length after - n) (drop n after)) part m r
+  pub written-behind : {part : List ℕ} {m : ℕ} {r : List ℕ} → Written (take (length after - n) (drop n after)) part m r
       → Written before (take n after ++ (part ++ drop (length after - n) (drop n after))) (n + m) (s ++ r)
-  written_behind {part} {m} {r} w =
+  written-behind {part} {m} {r} w =
       let all : length (drop n after) ≤ length after - n = omega (arith, length-drop n after) in
       let whole : take (length after - n) (drop n after) ≡ drop n before = take_all (length after - n) (drop n after) all ∙ written-drop in
       let room : m ≤ length (drop n before) = subst (λ (t : List ℕ). m ≤ length t) whole w.fits in
@@ -126,8 +126,8 @@ module _ (s before : List ℕ) (i : ℕ) (h : i < length s) (fits : length s ≤
   stored j (yes e) k = ap (λ (m : ℕ). get_or (set before i (get_or s i 0)) m 0) (sym e) ∙ get_or-set_same before i (get_or s i 0) 0 (omega arith) ∙ ap (λ (m : ℕ). get_or s m 0) e
   stored j (no n) k = get_or-set_other before i j (get_or s i 0) 0 (λ e. n (sym e)) ∙ k
 
-  pub covers_one : Covers s before (set before i (get_or s i 0)) i (i + 1)
-  covers_one =
+  pub covers-one : Covers s before (set before i (get_or s i 0)) i (i + 1)
+  covers-one =
       record {
         length-kept = length-set before i (get_or s i 0);
         behind = λ j k. get_or-set_other before i j (get_or s i 0) 0 (λ e. omega arith);
@@ -161,13 +161,13 @@ covers-both {s = s} {b = b} {f = f} {t = t} {u = u} h k meet =
     record {
       length-kept = h.length-kept;
       behind = h.behind;
-      there = λ j l m. in_one j l m (dec_lt j t);
+      there = λ j l m. in-one j l m (dec_lt j t);
       still = h.still;
     }
   where
-    in_one : (j : ℕ) → f ≤ j → j < u → Dec (j < t) → get_or b j 0 ≡ get_or s j 0
-    in_one j l m (yes q) = h.there j l q
-    in_one j l m (no q) = k.there j (omega arith) m
+    in-one : (j : ℕ) → f ≤ j → j < u → Dec (j < t) → get_or b j 0 ≡ get_or s j 0
+    in-one j l m (yes q) = h.there j l q
+    in-one j l m (no q) = k.there j (omega arith) m
 
 pub covers-next : {s a b c : List ℕ} {f t g u : ℕ} → Covers s a b f t → Covers s b c g u → g ≤ t → Covers s a c f u
 covers-next h k meet = covers-both (covers-first h k) (covers-second h k) meet
@@ -176,14 +176,14 @@ covers-next h k meet = covers-both (covers-first h k) (covers-second h k) meet
 pub covers-all : {s before after : List ℕ} → length s ≤ length before → Covers s before after 0 (length s) → Written before after (length s) s
 covers-all {s = s} {before = before} {after = after} fits h =
     record {
-      is = ext_get_or 0 after (s ++ drop (length s) before) (omega (arith, h.length-kept, length-append s (drop (length s) before), length-drop (length s) before)) (λ j l. by_place j (dec_lt j (length s)));
+      is = ext_get_or 0 after (s ++ drop (length s) before) (omega (arith, h.length-kept, length-append s (drop (length s) before), length-drop (length s) before)) (λ j l. by-place j (dec_lt j (length s)));
       size = refl;
       fits = fits;
     }
   where
-    by_place : (j : ℕ) → Dec (j < length s) → get_or after j 0 ≡ get_or (s ++ drop (length s) before) j 0
-    by_place j (yes k) = h.there j (omega arith) k ∙ sym (get_or-append s (drop (length s) before) 0 j k)
-    by_place j (no k) =
+    by-place : (j : ℕ) → Dec (j < length s) → get_or after j 0 ≡ get_or (s ++ drop (length s) before) j 0
+    by-place j (yes k) = h.there j (omega arith) k ∙ sym (get_or-append s (drop (length s) before) 0 j k)
+    by-place j (no k) =
         let e : length s + (j - length s) ≡ j = omega arith in
         h.behind j (omega arith)
         ∙ ap (λ (m : ℕ). get_or before m 0) (sym e)

@@ -1,6 +1,5 @@
 pub mod Text
 pub mod Written
-pub mod Replacing
 pub mod Utf8
 pub mod Unicode
 pub mod Nfd

@@ -87,12 +87,12 @@ verdictOf (bad why) = Verdict.Refused why
 
 -- ── a call that gives one text
 -- its reply to a text that was checked, and to the bytes of a text; f is what the call makes of its code points
-abbrev pub text_of : (List ℕ → List ℕ) → Checked → List ℕ → Reply
-text_of f (good s) buffer = placed 0 (encode (f s)) buffer
-text_of f (bad why) buffer = refused why buffer
+abbrev pub textOf : (List ℕ → List ℕ) → Checked → List ℕ → Reply
+textOf f (good s) buffer = placed 0 (encode (f s)) buffer
+textOf f (bad why) buffer = refused why buffer
 
 unfoldable pub textCall : Table → (List ℕ → List ℕ) → List ℕ → List ℕ → Reply
-textCall t f text buffer = text_of f (checkText t text) buffer
+textCall t f text buffer = textOf f (checkText t text) buffer
 
 -- the code's answer, and what it leaves in the buffer, as a reply
 abbrev pub textReply : TextAnswer → List ℕ → Reply

@@ -9,7 +9,7 @@ unfoldable pub use Rattle.ucd.specs.Unicode16.{unicode16}
 -- and what they open to compute examples
 unfoldable pub use Rattle.ucd.specs.Table.{mappingIn, classIn, decomposition, combiningClass, isComposite, compositeIn, composite}
 unfoldable pub use Rattle.ucd.specs.Unicode16.{mappings16, classes16, exclusions16}
-use Rattle.ji.specs.Utf8.{width_at, pointAt, encode}
+use Rattle.ji.specs.Utf8.{widthAt, pointAt, encode}
 
 -- `to_byte_len`: how many bytes the first n code points of a text take
 unfoldable pub toByteLen : List ℕ → ℕ → ℕ
@@ -25,8 +25,8 @@ module _ (t : Table) where
   unfoldable pub acceptedFrom : ℕ → List ℕ → List ℕ
   acceptedFrom skip [] = []
   acceptedFrom zero (b ∷ s) =
-      let taken : List ℕ = pointAt (b ∷ s) ∷ acceptedFrom (width_at (b ∷ s) - 1) s in
-      pickText (eqb (width_at (b ∷ s)) 0) [] (pickText (member t (pointAt (b ∷ s))) taken [])
+      let taken : List ℕ = pointAt (b ∷ s) ∷ acceptedFrom (widthAt (b ∷ s) - 1) s in
+      pickText (eqb (widthAt (b ∷ s)) 0) [] (pickText (member t (pointAt (b ∷ s))) taken [])
   acceptedFrom (suc skip) (b ∷ s) = acceptedFrom skip s
 
   unfoldable pub accepted : List ℕ → List ℕ

@@ -26,12 +26,12 @@ fitsRow (r ∷ row) [] = false
 fitsRow (r ∷ row) (b ∷ s) = within r.0 r.1 b && fitsRow row s
 
 -- how many bytes the sequence has that s begins with, and 0 where it fits no row
-abbrev pub width_in : List (List (ℕ × ℕ)) → List ℕ → ℕ
-width_in [] s = 0
-width_in (row ∷ rows) s = pickNumber (fitsRow row s) (length row) (width_in rows s)
+abbrev pub widthIn : List (List (ℕ × ℕ)) → List ℕ → ℕ
+widthIn [] s = 0
+widthIn (row ∷ rows) s = pickNumber (fitsRow row s) (length row) (widthIn rows s)
 
-unfoldable pub width_at : List ℕ → ℕ
-width_at s = width_in table37 s
+unfoldable pub widthAt : List ℕ → ℕ
+widthAt s = widthIn table37 s
 
 -- Table 3-6: the bits that the first byte a of a sequence of n bytes gives, and six more of each further byte
 abbrev pub leading : ℕ → ℕ → ℕ
@@ -45,13 +45,13 @@ abbrev pub trailing : ℕ → List ℕ → ℕ
 trailing x [] = x
 trailing x (b ∷ s) = trailing (x * 64 + b % 64) s
 
-abbrev pub point_of : ℕ → List ℕ → ℕ
-point_of n [] = 0
-point_of n (a ∷ s) = trailing (leading n a) (take (n - 1) s)
+abbrev pub pointOf : ℕ → List ℕ → ℕ
+pointOf n [] = 0
+pointOf n (a ∷ s) = trailing (leading n a) (take (n - 1) s)
 
 -- the code point of the sequence that s begins with
 unfoldable pub pointAt : List ℕ → ℕ
-pointAt s = point_of (width_at s) s
+pointAt s = pointOf (widthAt s) s
 
 -- the range of the second byte where a sequence has three bytes or four, by its first byte: what the rows of Table 3-7 come to
 abbrev pub secondLow : ℕ → ℕ
@@ -62,7 +62,7 @@ secondHigh a = pickNumber (eqb a 0xED) 0x9F (pickNumber (eqb a 0xF4) 0x8F 0xBF)
 
 -- what reading one sequence gives: its width, and its code point where it has one
 pub record ReadOf (s : List ℕ) (width point : ℕ) : Type 0 where
-  pub wide : width ≡ width_at s
+  pub wide : width ≡ widthAt s
   pub read : 0 < width → point ≡ pointAt s
 
 abbrev pub more : ℕ → Option (List ℕ) → Option (List ℕ)
@@ -74,15 +74,15 @@ pickDecoded true a b = a
 pickDecoded false a b = b
 
 -- the code points of the bytes s, or none where s is ill formed. `skip` counts the rest of a sequence
-unfoldable pub decode_from : ℕ → List ℕ → Option (List ℕ)
-decode_from skip [] = some []
-decode_from zero (b ∷ s) =
-    let rest : Option (List ℕ) = more (pointAt (b ∷ s)) (decode_from (width_at (b ∷ s) - 1) s) in
-    pickDecoded (eqb (width_at (b ∷ s)) 0) none rest
-decode_from (suc skip) (b ∷ s) = decode_from skip s
+unfoldable pub decodeFrom : ℕ → List ℕ → Option (List ℕ)
+decodeFrom skip [] = some []
+decodeFrom zero (b ∷ s) =
+    let rest : Option (List ℕ) = more (pointAt (b ∷ s)) (decodeFrom (widthAt (b ∷ s) - 1) s) in
+    pickDecoded (eqb (widthAt (b ∷ s)) 0) none rest
+decodeFrom (suc skip) (b ∷ s) = decodeFrom skip s
 
 unfoldable pub decode : List ℕ → Option (List ℕ)
-decode s = decode_from 0 s
+decode s = decodeFrom 0 s
 
 -- the bytes are well formed
 abbrev pub isDecoded : Option (List ℕ) → Bool
@@ -90,8 +90,8 @@ isDecoded none = false
 isDecoded (some s) = true
 
 -- Table 3-6: the bytes of a code point
-unfoldable pub bytes_of : ℕ → List ℕ
-bytes_of x =
+unfoldable pub bytesOf : ℕ → List ℕ
+bytesOf x =
     pickText (leb x 0x7F) (x ∷ [])
     (pickText (leb x 0x7FF) ((0xC0 + x / 64) ∷ (0x80 + x % 64) ∷ [])
     (pickText (leb x 0xFFFF) ((0xE0 + x / 4096) ∷ (0x80 + x / 64 % 64) ∷ (0x80 + x % 64) ∷ [])
@@ -99,7 +99,7 @@ bytes_of x =
 
 unfoldable pub encode : List ℕ → List ℕ
 encode [] = []
-encode (x ∷ s) = bytes_of x ++ encode s
+encode (x ∷ s) = bytesOf x ++ encode s
 
 -- the bytes of a quoted text
 abbrev pub bytes : String → List ℕ
@@ -122,4 +122,4 @@ lastStart s = lastStartFrom 0 0 s
 unfoldable pub lastPoint : List ℕ → ℕ
 lastPoint s =
     let tail : List ℕ = drop (lastStart s) s in
-    pickNumber (eqb (width_at tail) 0) 0 (pickNumber (leb (pointAt tail) 0xFFFF) (pointAt tail) 0)
+    pickNumber (eqb (widthAt tail) 0) 0 (pickNumber (leb (pointAt tail) 0xFFFF) (pointAt tail) 0)

@@ -1,6 +1,6 @@
 // What calls answer: refusals with their numbers, and texts.
 ghost use Rattle.std.specs.Prelude.{◌≡◌, ◌++◌, ◌+◌, ◌≤◌, ◌<◌, length};
-ghost use Rattle.ji.specs.Utf8.{bytes_of, encode};
+ghost use Rattle.ji.specs.Utf8.{bytesOf, encode};
 ghost use Rattle.ji.specs.Written.{Written, Covers};
 ghost use Rattle.ji.specs.Reply.{refusalNumber, placed, textReply};
 
@@ -123,7 +123,7 @@ pub fn place_bytes(s: &[u8], out: &mut [u8]) -> TextAnswer
 
 // Writes the bytes `before`, the code point `x` and the bytes `after` to `out`, if there is room for all of them.
 pub fn place_between(before: &[u8], x: u16, after: &[u8], out: &mut [u8]) -> TextAnswer
-    ensures { textReply result out.new ≡ placed 0 (before.now ++ (bytes_of x ++ after.now)) out.old }
+    ensures { textReply result out.new ≡ placed 0 (before.now ++ (bytesOf x ++ after.now)) out.old }
 {
     let size = utf8::byte_count(x);
     if out.len() < before.len() {

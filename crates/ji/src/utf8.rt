@@ -3,7 +3,7 @@ ghost use Rattle.std.specs.Prelude.{◌≡◌, ◌&&◌, ℕ, ◌+◌, ◌-◌, 
 ghost use Rattle.std.proofs.Math.Seq.{paste};
 ghost use Rattle.ji.specs.Written.{Written};
 ghost use Rattle.ji.specs.Text.{within};
-ghost use Rattle.ji.specs.Utf8.{isStart, lastStart, secondLow, secondHigh, ReadOf, decode, isDecoded, bytes_of, encode};
+ghost use Rattle.ji.specs.Utf8.{isStart, lastStart, secondLow, secondHigh, ReadOf, decode, isDecoded, bytesOf, encode};
 
 use crate::unicode::ByteLen;
 
@@ -187,8 +187,8 @@ pub(crate) fn well_formed(s: &[u8], at: usize) -> bool
 
 // Writes the bytes of the code point `x` at `at`, and returns the place behind them.
 pub(crate) fn put_point(x: u32, out: &mut [u8], at: usize) -> usize
-    requires { (x ≤ 0xFFFF) × (at + length (bytes_of x) ≤ length out.old) }
-    ensures { (result ≡ at + length (bytes_of x)) × (out.new ≡ paste out.old at (bytes_of x) (length (bytes_of x))) }
+    requires { (x ≤ 0xFFFF) × (at + length (bytesOf x) ≤ length out.old) }
+    ensures { (result ≡ at + length (bytesOf x)) × (out.new ≡ paste out.old at (bytesOf x) (length (bytesOf x))) }
 {
     if x <= 0x7F {
         out[at] = x as u8;
@@ -221,7 +221,7 @@ pub(crate) fn encode(s: &[u16], out: &mut [u8]) -> ByteLen
 
 // How many bytes the code point `x` takes.
 pub(crate) fn byte_count(x: u16) -> usize
-    ensures { (result ≡ length (bytes_of x)) × (result ≤ 3) }
+    ensures { (result ≡ length (bytesOf x)) × (result ≤ 3) }
 {
     if x <= 0x7F {
         return 1;

@@ -19,9 +19,9 @@ pub record Front (buffer : List ℕ) (n : ℕ) (s : List ℕ) : Type 0 where
   pub size : length s ≡ n
 
 -- the answer that a number stands for: one more than the length of the text that was written, or 0 where there was no room
-abbrev pub answer_of : ℕ → TextAnswer
-answer_of zero = Refused NoRoom
-answer_of (suc n) = Done (record { 0 = n })
+abbrev pub answerOf : ℕ → TextAnswer
+answerOf zero = Refused NoRoom
+answerOf (suc n) = Done (record { 0 = n })
 
 -- a mark as the code has it
 abbrev pub markText : Mark → List ℕ
@@ -77,7 +77,7 @@ pub record Plain (s : List ℕ) : Type 0 where
 
 -- what the quick way says by its number: 0 that it wrote nothing, any other the answer
 abbrev pub QuickAs : ℕ → List ℕ → List ℕ → Reply → Type 0
-QuickAs r before after reply = (r ≡ 0 → after ≡ before) × (0 < r → textReply (answer_of r) after ≡ reply)
+QuickAs r before after reply = (r ≡ 0 → after ≡ before) × (0 < r → textReply (answerOf r) after ≡ reply)
 
 -- the vowel rules that begin with o, and those that begin with e, for a second vowel in both cases
 abbrev pub oPairs : ℕ → ℕ → List (List ℕ × List ℕ)

@@ -51,8 +51,8 @@ unfoldable pub sharedTone : ToneKeys → Tone
 sharedTone k = keyToTone k k.t8
 
 -- a text ends in this one
-unfoldable pub ends_with : List ℕ → List ℕ → Bool
-ends_with e s = same (drop (length s - length e) s) e
+unfoldable pub endsWith : List ℕ → List ℕ → Bool
+endsWith e s = same (drop (length s - length e) s) e
 
 -- ── the branches; `given` is the text, `rest` its stripped text, and branches test the first and edit the second
 -- the key of the text's tone is typed again
@@ -61,20 +61,20 @@ repeatsTone k key tone = not (eqb (toneToKey k tone) (point " ")) && eqb (toneTo
 
 -- n behind ⁿ or ᴺ
 unfoldable pub opensNasal : ℕ → List ℕ → Bool
-opensNasal key given = eqb (lower key) (point "n") && (ends_with (points "ⁿ") given || ends_with (points "ᴺ") given)
+opensNasal key given = eqb (lower key) (point "n") && (endsWith (points "ⁿ") given || endsWith (points "ᴺ") given)
 
 -- u or o behind o+0358
 unfoldable pub opensDot : ℕ → List ℕ → Bool
 opensDot key given =
-    (eqb (lower key) (point "u") || eqb (lower key) (point "o")) && (ends_with (marked "o" 0x0358) given || ends_with (marked "O" 0x0358) given)
+    (eqb (lower key) (point "u") || eqb (lower key) (point "o")) && (endsWith (marked "o" 0x0358) given || endsWith (marked "O" 0x0358) given)
 
 -- o behind o+0324
 unfoldable pub opensO : ℕ → List ℕ → Bool
-opensO key given = eqb (lower key) (point "o") && (ends_with (marked "o" 0x0324) given || ends_with (marked "O" 0x0324) given)
+opensO key given = eqb (lower key) (point "o") && (endsWith (marked "o" 0x0324) given || endsWith (marked "O" 0x0324) given)
 
 -- u behind ṳ: "only the single code points 1E73 and 1E72 take the ṳ branch"
 unfoldable pub opensU : ℕ → List ℕ → Bool
-opensU key given = eqb (lower key) (point "u") && (ends_with (0x1E73 ∷ []) given || ends_with (0x1E72 ∷ []) given)
+opensU key given = eqb (lower key) (point "u") && (endsWith (0x1E73 ∷ []) given || endsWith (0x1E72 ∷ []) given)
 
 -- e, in the case of the key
 abbrev pub eLike : ℕ → ℕ

@@ -5,7 +5,7 @@ use Rattle.ji.specs.Utf8.{encode}
 use Rattle.ji.specs.Text.{point, lower, butLast}
 use Rattle.ji.specs.Tone.{isTone}
 use Rattle.ji.specs.Lomaji.Strip.{strip}
-use Rattle.ji.specs.Lomaji.ToneLetter.{toneLetter, is_some}
+use Rattle.ji.specs.Lomaji.ToneLetter.{toneLetter, isSome}
 use Rattle.ji.specs.declared.tone.Tone.{Tone}
 use Rattle.khiin.specs.Converter.{keyToTone, repeatsTone, opensNasal, opensDot, opensO, opensU, eLike, isFirst, toned, joined, bare, step}
 use Rattle.khiin.specs.declared.converter.ToneKeys.{ToneKeys}
@@ -46,7 +46,7 @@ editOf k key tone given = pickEdit (repeatsTone k key tone) Behind (editAt key g
 -- ── what it makes of the stripped text
 unfoldable pub composedOf : Table → ToneKeys → ℕ → Tone → List ℕ → List ℕ
 composedOf t k key tone rest =
-    pickText (not (isFirst tone) || is_some (toneLetter rest))
+    pickText (not (isFirst tone) || isSome (toneLetter rest))
     (pickText (isTone (keyToTone k (lower key))) (toned t k key rest) (joined t k key tone rest))
     (bare t key rest)
 
@@ -57,8 +57,8 @@ edited t k LastTwo key tone rest = butLast 2 rest ++ (eLike key ∷ key ∷ [])
 edited t k Compose key tone rest = composedOf t k key tone rest
 
 -- the step with the keys that the mode leaves
-unfoldable pub step_of : Table → ToneKeys → ℕ → List ℕ → List ℕ
-step_of t k key given = step t k key given (strip t given).tone (strip t given).rest
+unfoldable pub stepOf : Table → ToneKeys → ℕ → List ℕ → List ℕ
+stepOf t k key given = step t k key given (strip t given).tone (strip t given).rest
 
 -- a stripped text stands in the first n bytes of a buffer
 pub record RestIn (bytes : List ℕ) (n : ℕ) : Type 0 where

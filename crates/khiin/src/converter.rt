@@ -1,13 +1,13 @@
 // The telex step: `convert_to_telex`, its text only.
 ghost use Rattle.std.specs.Prelude.{◌≡◌, true, not, ◌||◌, List, [], ◌∷◌, ◌++◌, ℕ, ◌+◌, ◌-◌, ◌*◌, ◌/◌, ◌≤◌, ◌<◌, length, take};
 ghost use Rattle.ji.specs.Unicode.{unicode16, listed};
-ghost use Rattle.ji.specs.Text.{points as points_of, allAscii};
+ghost use Rattle.ji.specs.Text.{points as pointsOf, allAscii};
 ghost use Rattle.ji.specs.Utf8.{decode, encode, lastStart};
 ghost use Rattle.ji.specs.Reply.{placed, textCall, textReply, good, checkPoints};
-ghost use Rattle.ji.specs.Lomaji.ToneLetter.{toneLetter, is_some};
+ghost use Rattle.ji.specs.Lomaji.ToneLetter.{toneLetter, isSome};
 ghost use Rattle.khiin.specs.Syllable.{compose};
 ghost use Rattle.khiin.specs.Converter.{keysIn, keyToTone, toneToKey, isSetting, settingsFit, sharedOr, endsInStop, repeatsTone, eLike, grown, isFirst, telexCall};
-ghost use Rattle.khiin.specs.Telex.{editBy, editAt, editOf, composedOf, edited, step_of, RestIn};
+ghost use Rattle.khiin.specs.Telex.{editBy, editAt, editOf, composedOf, edited, stepOf, RestIn};
 
 use crate::syllable::compose::compose_points;
 use crate::syllable::marking::answer;
@@ -204,7 +204,7 @@ fn e_like(key: u16) -> u16
 
 // Whether the letter `x`, in lower case, is a stop.
 fn is_stop(x: u16) -> bool
-    ensures { result ≡ listed (points_of "ptkh") x }
+    ensures { result ≡ listed (pointsOf "ptkh") x }
 {
     match x {
         P | T | K | H => true,
@@ -346,7 +346,7 @@ fn without_last(bytes: &[u8], n: usize) -> usize
 
 // Whether a text of this tone is one that a tone key gives a tone: it has one other than the first, or a tone letter.
 fn takes_tone(tone: Tone, rest: &[u16]) -> bool
-    ensures { result ≡ (not (isFirst tone) || is_some (toneLetter rest.now)) }
+    ensures { result ≡ (not (isFirst tone) || isSome (toneLetter rest.now)) }
 {
     if tone::number(tone) != 1 {
         return true;
@@ -503,7 +503,7 @@ fn step_in(
     out: &mut [u8],
 ) -> TextAnswer
     requires { (key ≤ 0x7F) × (length text.now ≤ 256) × (5 * length text.now + 4 ≤ 2 * length bytes.old) × (length bytes.old ≤ length points.old) × (length bytes.old + 1 < length points.old) }
-    ensures { textReply result out.new ≡ textCall unicode16 (step_of unicode16 k key) text.now out.old }
+    ensures { textReply result out.new ≡ textCall unicode16 (stepOf unicode16 k key) text.now out.old }
 {
     let mut n = text.len();
     let mut tone = Tone::T1;
@@ -530,7 +530,7 @@ fn step_in(
 // the text, and the key takes one more.
 fn step_short(k: ToneKeys, key: u8, text: &[u8], out: &mut [u8]) -> TextAnswer
     requires { (key ≤ 0x7F) × (length text.now ≤ 8) }
-    ensures { textReply result out.new ≡ textCall unicode16 (step_of unicode16 k key) text.now out.old }
+    ensures { textReply result out.new ≡ textCall unicode16 (stepOf unicode16 k key) text.now out.old }
 {
     let mut bytes = [0u8; 22];
     let mut points = [0u16; 24];
@@ -540,7 +540,7 @@ fn step_short(k: ToneKeys, key: u8, text: &[u8], out: &mut [u8]) -> TextAnswer
 // In buffers for a text of at most 256 bytes.
 fn step_long(k: ToneKeys, key: u8, text: &[u8], out: &mut [u8]) -> TextAnswer
     requires { (key ≤ 0x7F) × (length text.now ≤ 256) }
-    ensures { textReply result out.new ≡ textCall unicode16 (step_of unicode16 k key) text.now out.old }
+    ensures { textReply result out.new ≡ textCall unicode16 (stepOf unicode16 k key) text.now out.old }
 {
     let mut bytes = [0u8; 642];
     let mut points = [0u16; 644];

@@ -19,12 +19,12 @@ abbrev pub textIn : Option (List ℕ) → List ℕ
 textIn none = []
 textIn (some s) = s
 
-unfoldable pub points_of : List ℕ → List ℕ
-points_of s = textIn (decode s)
+unfoldable pub pointsOf : List ℕ → List ℕ
+pointsOf s = textIn (decode s)
 
 -- the bytes of a form of a part
 unfoldable pub formBytes : Table → Form → Kind → List ℕ → List ℕ
-formBytes t form kind part = encode (keys t form kind (points_of part))
+formBytes t form kind part = encode (keys t form kind (pointsOf part))
 
 -- forms of this kind end in the key of the tone
 abbrev pub isToned : Kind → Bool
@@ -42,13 +42,13 @@ allShort [] = true
 allShort (w ∷ ws) = leb (length w) 256 && allShort ws
 
 -- how many parts an entry has, and 0 where they are too many or one is too long
-unfoldable pub part_count : List ℕ → ℕ
-part_count s = pickNumber (leb (length (split s)) 16 && allShort (split s)) (length (split s)) 0
+unfoldable pub partCount : List ℕ → ℕ
+partCount s = pickNumber (leb (length (split s)) 16 && allShort (split s)) (length (split s)) 0
 
 -- an entry that was found good, and its parts not too many and not too long
 pub record Entry (entry : List ℕ) (parts : ℕ) : Type 0 where
-  pub checked : checkWithin unicode16 1024 entry ≡ good (points_of entry)
-  pub count : parts ≡ part_count entry
+  pub checked : checkWithin unicode16 1024 entry ≡ good (pointsOf entry)
+  pub count : parts ≡ partCount entry
   pub some : 0 < parts
 
 -- the choices of a part, which is the only one or one of several
@@ -57,7 +57,7 @@ chosen t single kind w = pickTexts single (alone t kind w) (choices t kind w)
 
 -- the same by its bytes, in bytes
 unfoldable pub choicesOf : Table → Bool → Kind → List ℕ → List (List ℕ)
-choicesOf t single kind part = map encode (chosen t single kind (points_of part))
+choicesOf t single kind part = map encode (chosen t single kind (pointsOf part))
 
 -- the choices of each part of an entry
 unfoldable pub choicesIn : Table → Kind → List ℕ → List (List (List ℕ))
@@ -65,9 +65,9 @@ choicesIn t kind entry = map (choicesOf t (eqb (length (split entry)) 1) kind) (
 
 -- ── the arrays
 -- f 0, f 1, .. for each number below n
-abbrev pub up_to {ℓ} : {A : Type ℓ} → (ℕ → A) → ℕ → List A
-up_to f zero = []
-up_to f (suc n) = up_to f n ++ (f n ∷ [])
+abbrev pub upTo {ℓ} : {A : Type ℓ} → (ℕ → A) → ℕ → List A
+upTo f zero = []
+upTo f (suc n) = upTo f n ++ (f n ∷ [])
 
 -- a choice: as many bytes as `lengths` says, from the place that `offsets` says
 abbrev pub choiceAt : List ℕ → List ℕ → List ℕ → ℕ → List ℕ
@@ -75,7 +75,7 @@ choiceAt forms offsets lengths j = take (get_or lengths j 0) (drop (get_or offse
 
 -- the choices of a part that has `radix` of them
 abbrev pub choicesAt : List ℕ → List ℕ → List ℕ → ℕ → List (List ℕ)
-choicesAt forms offsets lengths radix = up_to (choiceAt forms offsets lengths) radix
+choicesAt forms offsets lengths radix = upTo (choiceAt forms offsets lengths) radix
 
 -- one form or two, from `at` on, which end at `mid` and `end`, as they are; and each with and without its last byte, the key of the tone
 abbrev pub rowOne : ℕ → ℕ → Row
@@ -98,7 +98,7 @@ rowTwoToned at mid end =
 
 -- the choices of each of the first `parts` parts
 unfoldable pub laidOut : List ℕ → List (List ℕ) → List (List ℕ) → List ℕ → ℕ → List (List (List ℕ))
-laidOut forms offsets lengths radices parts = up_to (λ i. choicesAt forms (get_or offsets i []) (get_or lengths i []) (get_or radices i 0)) parts
+laidOut forms offsets lengths radices parts = upTo (λ i. choicesAt forms (get_or offsets i []) (get_or lengths i []) (get_or radices i 0)) parts
 
 -- a part has one, two or four choices
 abbrev pub Radix : ℕ → Type 0

@@ -57,13 +57,13 @@ module _ (t : Table) where
   choices Telex w = forms Telex w ++ forms Detoned w
 
   -- "One part's forms, or these combinations, are in this order the list of a kind"
-  abbrev pub list_of : Kind → List (List ℕ) → List (List ℕ)
-  list_of kind [] = []
-  list_of kind (w ∷ []) = alone kind w
-  list_of kind (w ∷ (v ∷ ws)) = product (map (choices kind) (w ∷ (v ∷ ws)))
+  abbrev pub listOf : Kind → List (List ℕ) → List (List ℕ)
+  listOf kind [] = []
+  listOf kind (w ∷ []) = alone kind w
+  listOf kind (w ∷ (v ∷ ws)) = product (map (choices kind) (w ∷ (v ∷ ws)))
 
   unfoldable pub keyings : Kind → List ℕ → List (List ℕ)
-  keyings kind entry = list_of kind (split entry)
+  keyings kind entry = listOf kind (split entry)
 
   -- ── the call
   -- "5: an entry of more than 16 parts, or a part above 256 bytes"

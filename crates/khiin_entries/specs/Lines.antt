@@ -9,7 +9,7 @@ use Rattle.ji.specs.declared.reply.Refusal.{Refusal}
 use Rattle.ji.specs.declared.lomaji.keys.Kind.{Kind}
 use Rattle.ji.specs.declared.lomaji.keys.Kind.TheVariants.{Detoned, Numeric, Telex}
 use Rattle.khiin_entries.specs.KeySequence.{split, keyings}
-use Rattle.khiin_entries.specs.Choices.{points_of, up_to, keyingIn}
+use Rattle.khiin_entries.specs.Choices.{pointsOf, upTo, keyingIn}
 use Rattle.khiin_entries.specs.Listing.{decimal, spaced, keyingLines, together, fitting, goingIn}
 
 -- ── one line
@@ -43,7 +43,7 @@ lineIn letter forms offsets lengths radices parts position =
 
 -- the lines of a kind
 unfoldable pub linesIn : ℕ → List ℕ → List (List ℕ) → List (List ℕ) → List ℕ → ℕ → ℕ → List (List ℕ)
-linesIn letter forms offsets lengths radices parts count = up_to (lineIn letter forms offsets lengths radices parts) count
+linesIn letter forms offsets lengths radices parts count = upTo (lineIn letter forms offsets lengths radices parts) count
 
 -- ── many lines
 -- `text` stands from `at` on and ends at `end`; before and behind it the buffer is as it was
@@ -70,16 +70,16 @@ pub record Following (ls : List (List ℕ)) (first next at : ℕ) (before after 
 -- ── a good entry's lines
 -- those of a kind
 unfoldable pub kindLines : Kind → List ℕ → List (List ℕ)
-kindLines kind entry = keyingLines kind 0 (keyings unicode16 kind (points_of entry))
+kindLines kind entry = keyingLines kind 0 (keyings unicode16 kind (pointsOf entry))
 
 -- the header, which gives these numbers of telex and detoned keyings, and the numeric lines
 unfoldable pub throughNumeric : List ℕ → ℕ → ℕ → ℕ → List (List ℕ)
 throughNumeric entry parts telex detoned =
-    (headerLine parts (dottedIn (split entry)) (length (keyings unicode16 Numeric (points_of entry))) telex detoned ∷ []) ++ kindLines Numeric entry
+    (headerLine parts (dottedIn (split entry)) (length (keyings unicode16 Numeric (pointsOf entry))) telex detoned ∷ []) ++ kindLines Numeric entry
 
 -- and the telex lines
 unfoldable pub throughTelex : List ℕ → ℕ → ℕ → List (List ℕ)
-throughTelex entry parts detoned = throughNumeric entry parts (length (keyings unicode16 Telex (points_of entry))) detoned ++ kindLines Telex entry
+throughTelex entry parts detoned = throughNumeric entry parts (length (keyings unicode16 Telex (pointsOf entry))) detoned ++ kindLines Telex entry
 
 -- of these lines those from number `from` on were written, as many as go in, from the buffer's front on; `lines` is how many there are
 pub record Reached (ls : List (List ℕ)) (from : ℕ) (before after : List ℕ) (next end lines : ℕ) : Type 0 where

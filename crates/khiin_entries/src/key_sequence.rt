@@ -4,7 +4,7 @@ ghost use Rattle.std.specs.Prelude.{◌≡◌, true, false, ◌&&◌, ℕ, ◌+�
 ghost use Rattle.std.proofs.Math.Seq.{paste};
 ghost use Rattle.ji.specs.Unicode.{unicode16, same as sameText};
 ghost use Rattle.ji.specs.Reply.{good, checkText};
-ghost use Rattle.khiin_entries.specs.Choices.{points_of, formBytes, isToned, firstPart, part_count, rowOne, rowTwo, rowOneToned, rowTwoToned, RowOf, Radix, Laid, Entry, laidOut, choicesIn, countIn, lengthIn, keyingIn, laidReply};
+ghost use Rattle.khiin_entries.specs.Choices.{pointsOf, formBytes, isToned, firstPart, partCount, rowOne, rowTwo, rowOneToned, rowTwoToned, RowOf, Radix, Laid, Entry, laidOut, choicesIn, countIn, lengthIn, keyingIn, laidReply};
 ghost use Rattle.khiin_entries.specs.KeySequence.{keyingCall, keyingReply};
 
 use ji::lomaji::dot::holds_dot;
@@ -46,7 +46,7 @@ pub(crate) fn part_end(entry: &[u8], at: usize) -> usize
 // How many parts an entry has, and 0 where they are more than sixteen or one has more than 256 bytes.
 pub(crate) fn count_parts(entry: &[u8]) -> usize
     requires { length entry.now ≤ 1024 }
-    ensures { result ≡ part_count entry.now }
+    ensures { result ≡ partCount entry.now }
 {
     let mut at: usize = 0;
     let mut n: usize = 0;
@@ -66,7 +66,7 @@ pub(crate) fn count_parts(entry: &[u8]) -> usize
 
 // Writes a form of a part at `at`, and returns the place behind it.
 fn put_form(part: &[u8], form: Form, kind: Kind, forms: &mut [u8], at: usize) -> usize
-    requires { (checkText unicode16 part.now ≡ good (points_of part.now)) × (at + length (formBytes unicode16 form kind part.now) ≤ length forms.old) }
+    requires { (checkText unicode16 part.now ≡ good (pointsOf part.now)) × (at + length (formBytes unicode16 form kind part.now) ≤ length forms.old) }
     ensures { (result ≡ at + length (formBytes unicode16 form kind part.now)) × (forms.new ≡ paste forms.old at (formBytes unicode16 form kind part.now) (length (formBytes unicode16 form kind part.now))) }
 {
     match keys::keys(part, form, kind, &mut forms[at..]) {
@@ -170,7 +170,7 @@ fn is_toned(kind: Kind) -> bool
 
 // The forms of a part that is the only one.
 fn lay_single(part: &[u8], kind: Kind, forms: &mut [u8], at: usize) -> Row
-    requires { (checkText unicode16 part.now ≡ good (points_of part.now)) × (at + (5 * length part.now + 2) ≤ length forms.old) × (length forms.old ≤ 65535) }
+    requires { (checkText unicode16 part.now ≡ good (pointsOf part.now)) × (at + (5 * length part.now + 2) ≤ length forms.old) × (length forms.old ≤ 65535) }
     ensures { RowOf unicode16 true kind part.now at forms.old forms.new result }
 {
     let mid = put_form(part, Form::Plain, kind, forms, at);
@@ -183,7 +183,7 @@ fn lay_single(part: &[u8], kind: Kind, forms: &mut [u8], at: usize) -> Row
 
 // The forms of a part of several.
 fn lay_part(part: &[u8], kind: Kind, forms: &mut [u8], at: usize) -> Row
-    requires { (checkText unicode16 part.now ≡ good (points_of part.now)) × (at + (5 * length part.now + 2) ≤ length forms.old) × (length forms.old ≤ 65535) }
+    requires { (checkText unicode16 part.now ≡ good (pointsOf part.now)) × (at + (5 * length part.now + 2) ≤ length forms.old) × (length forms.old ≤ 65535) }
     ensures { RowOf unicode16 false kind part.now at forms.old forms.new result }
 {
     let mid = put_form(part, Form::Plain, kind, forms, at);
@@ -201,7 +201,7 @@ fn lay_part(part: &[u8], kind: Kind, forms: &mut [u8], at: usize) -> Row
 }
 
 fn lay_row(part: &[u8], single: bool, kind: Kind, forms: &mut [u8], at: usize) -> Row
-    requires { (checkText unicode16 part.now ≡ good (points_of part.now)) × (at + (5 * length part.now + 2) ≤ length forms.old) × (length forms.old ≤ 65535) }
+    requires { (checkText unicode16 part.now ≡ good (pointsOf part.now)) × (at + (5 * length part.now + 2) ≤ length forms.old) × (length forms.old ≤ 65535) }
     ensures { RowOf unicode16 single kind part.now at forms.old forms.new result }
 {
     if single {

@@ -23,7 +23,7 @@ use Rattle.ji.specs.declared.tone.Tone.{Tone}
 use Rattle.ji.specs.declared.tone.Tone.TheVariants.{T1, T4}
 use Rattle.ji.specs.declared.lomaji.khin.Khin.{Khin}
 use Rattle.ji.specs.declared.lomaji.khin.Khin.TheVariants.{No, Yes}
-use Rattle.ji.proofs.Bools.{either, false-true, or_no, text-yes, text-no}
+use Rattle.ji.proofs.Bools.{either, false-true, or-no, text-yes, text-no}
 use Rattle.ji.proofs.Replies.{placed-written}
 use Rattle.ji.proofs.Writing.{written-run}
 use Rattle.ji.proofs.unicode.Bytes.{encode-nil, encode-append}
@@ -32,13 +32,13 @@ use Rattle.ji.proofs.lomaji.keys.Bytes.{stripped-bytes}
 use Rattle.khiin_records.specs.Syllable.{Syllable, raw, toneDigit, khinKey, candidate, fromComposed, candidatesOf, candidateIn, candidateOf, candidateCall, placedRecord, recordReply}
 use Rattle.khiin_records.specs.Records.{RecordOf}
 use Rattle.ji.specs.Lomaji.Dot.{dotIn}
-use Rattle.khiin_records.specs.RawBytes.{Body, body_of, count_of, vowelAt}
+use Rattle.khiin_records.specs.RawBytes.{Body, bodyOf, count_of, vowelAt}
 use Rattle.khiin_records.specs.declared.Record.{Record}
 use Rattle.khiin_records.specs.declared.Recorded.TheVariants.{Done}
 use Rattle.ji.proofs.lomaji.dot.Laws.{dot-listed}
 use Rattle.ji.proofs.unicode.Ascii.{ascii-bytes}
 use Rattle.khiin_records.proofs.Records.{digit-ascii, khin-ascii, record-done, candidates-two, candidates-one}
-use Rattle.khiin_records.proofs.RawBytes.{body_is}
+use Rattle.khiin_records.proofs.RawBytes.{body-is}
 
 -- ── the call, once the text is checked
 pub candidate-refused : (text : List ℕ) (position : ℕ) (buffer : List ℕ) (why : Refusal) → checkText unicode16 text ≡ bad why → refused why buffer ≡ candidateCall unicode16 text position buffer
@@ -92,16 +92,16 @@ module _ (t : Tone) (k : Khin) (u : List ℕ) (buffer : List ℕ) where
 
 -- the bytes of a candidate's body, and of its raw input
 module _ (t : Tone) (k : Khin) (u : List ℕ) (vowel : ℕ) (low : vowel < 0x80) where
-  body_bytes : (body_of vowel (encode u)).text ≡ encode (candidate t k u (vowel ∷ [])).body
-  body_bytes = ap (λ (b : Body). b.text) (body_is vowel low u)
+  body-bytes : (bodyOf vowel (encode u)).text ≡ encode (candidate t k u (vowel ∷ [])).body
+  body-bytes = ap (λ (b : Body). b.text) (body-is vowel low u)
 
-  pub raw-bytes : (body_of vowel (encode u)).text ++ (toneDigit t ++ khinKey k) ≡ encode (raw (candidate t k u (vowel ∷ [])))
+  pub raw-bytes : (bodyOf vowel (encode u)).text ++ (toneDigit t ++ khinKey k) ≡ encode (raw (candidate t k u (vowel ∷ [])))
   raw-bytes =
-      ap₂ ◌++◌ body_bytes (sym (encode-append (toneDigit t) (khinKey k) ∙ ap₂ ◌++◌ (ascii-bytes (toneDigit t) (digit-ascii t)) (ascii-bytes (khinKey k) (khin-ascii k))))
+      ap₂ ◌++◌ body-bytes (sym (encode-append (toneDigit t) (khinKey k) ∙ ap₂ ◌++◌ (ascii-bytes (toneDigit t) (digit-ascii t)) (ascii-bytes (khinKey k) (khin-ascii k))))
       ∙ sym (encode-append (candidate t k u (vowel ∷ [])).body (toneDigit t ++ khinKey k))
 
 -- a body and the keys behind it were written
-module _ (t : Tone) (k : Khin) (u : List ℕ) (vowel : ℕ) (low : vowel < 0x80) (buffer mid : List ℕ) (n : ℕ) (w : Written buffer mid n (body_of vowel (encode u)).text) where
+module _ (t : Tone) (k : Khin) (u : List ℕ) (vowel : ℕ) (low : vowel < 0x80) (buffer mid : List ℕ) (n : ℕ) (w : Written buffer mid n (bodyOf vowel (encode u)).text) where
   abbrev made : Syllable
   made = candidate t k u (vowel ∷ [])
 
@@ -118,7 +118,7 @@ module _ (t : Tone) (k : Khin) (u : List ℕ) (vowel : ℕ) (low : vowel < 0x80)
         record-done count made (encode (raw made)) buffer refl (n + length keys) after r (placed-written 0 (encode (raw made)) buffer (n + length keys) after raw-written) h
 
   pub body-length : n ≡ length (encode made.body)
-  body-length = sym w.size ∙ ap length (body_bytes t k u vowel low)
+  body-length = sym w.size ∙ ap length (body-bytes t k u vowel low)
 
 pub keys-few : (t : Tone) (k : Khin) → length (toneDigit t ++ khinKey k) ≤ 2
 keys-few t k =
@@ -136,14 +136,14 @@ module _ (t : Tone) (k : Khin) (u s : List ℕ) (e : s ≡ encode u) (buffer mid
   abbrev given : Record
   given = record { len = record { 0 = len }; count = count; body = record { 0 = n }; tone = t; khin = k }
 
-  pub quick-answer : vowel ≡ vowelAt (dotIn s) position → (vowel ≡ 0 → ⊥) → Written buffer mid n (body_of vowel s).text → n ≤ length s → count ≡ count_of (body_of vowel s).dotted
+  pub quick-answer : vowel ≡ vowelAt (dotIn s) position → (vowel ≡ 0 → ⊥) → Written buffer mid n (bodyOf vowel s).text → n ≤ length s → count ≡ count_of (bodyOf vowel s).dotted
       → len ≡ n + length (toneDigit t ++ khinKey k) → after ≡ paste mid n (toneDigit t ++ khinKey k) (length (toneDigit t ++ khinKey k)) → length s + 2 ≤ length buffer
       → recordReply (Done given) after ≡ candidateIn (candidatesOf t k u) position buffer
   quick-answer is some w short counted size pasted room =
       let dotted : listed u 0x0358 ≡ dotIn s = sym (ap dotIn e ∙ dot-listed u) in
       let low : vowel < 0x80 = omega (arith, is, vowel-low (dotIn s) position) in
-      let w' = subst (λ (l : List ℕ). Written buffer mid n (body_of vowel l).text) e w in
-      let met : count ≡ count_of (dotIn s) = counted ∙ ap (λ (l : List ℕ). count_of (body_of vowel l).dotted) e ∙ ap (λ (b : Body). count_of b.dotted) (body_is vowel low u) ∙ ap count_of dotted in
+      let w' = subst (λ (l : List ℕ). Written buffer mid n (bodyOf vowel l).text) e w in
+      let met : count ≡ count_of (dotIn s) = counted ∙ ap (λ (l : List ℕ). count_of (bodyOf vowel l).dotted) e ∙ ap (λ (b : Body). count_of b.dotted) (body-is vowel low u) ∙ ap count_of dotted in
       quick-done t k u vowel low buffer mid n w' after pasted (omega (arith, keys-few t k)) count given
       (record { len = size; count-is = refl; body = body-length t k u vowel low buffer mid n w'; tone = refl; khin = refl })
       ∙ ap₂ (λ (c v : ℕ). placedRecord c (candidate t k u (v ∷ [])) buffer) met is
@@ -159,15 +159,15 @@ mark-some [] h c e = absurd (false-true e)
 mark-some (m ∷ ms) h c e =
     either (eqb m.0 c)
     (λ f. ap (λ (b : Bool). isTone (pickTone b m.1 (toneIn ms c))) f ∙ h.0)
-    (λ f. ap (λ (b : Bool). isTone (pickTone b m.1 (toneIn ms c))) f ∙ mark-some ms h.1 c (sym (or_no (eqb m.0 c) (markIn ms c) f) ∙ e))
+    (λ f. ap (λ (b : Bool). isTone (pickTone b m.1 (toneIn ms c))) f ∙ mark-some ms h.1 c (sym (or-no (eqb m.0 c) (markIn ms c) f) ∙ e))
 
-last_some : (o : Tone) → isTone o ≡ true → (s : List ℕ) → isTone (lastTone o (droppedMarks s)) ≡ true
+last-some : (o : Tone) → isTone o ≡ true → (s : List ℕ) → isTone (lastTone o (droppedMarks s)) ≡ true
 unfolding lastTone droppedMarks isToneMark markTone
-last_some o h [] = h
-last_some o h (c ∷ s) =
+last-some o h [] = h
+last-some o h (c ∷ s) =
     either (isToneMark c)
-    (λ e. rw (text-yes (isToneMark c) (c ∷ droppedMarks s) (droppedMarks s) e) (last_some (markTone c) (mark-some toneMarks (refl, (refl, (refl, (refl, (refl, (refl, (refl, tt))))))) c e) s))
-    (λ e. rw (text-no (isToneMark c) (c ∷ droppedMarks s) (droppedMarks s) e) (last_some o h s))
+    (λ e. rw (text-yes (isToneMark c) (c ∷ droppedMarks s) (droppedMarks s) e) (last-some (markTone c) (mark-some toneMarks (refl, (refl, (refl, (refl, (refl, (refl, (refl, tt))))))) c e) s))
+    (λ e. rw (text-no (isToneMark c) (c ∷ droppedMarks s) (droppedMarks s) e) (last-some o h s))
 
 unmarked-some : (s : List ℕ) → isTone (unmarkedTone s) ≡ true
 unfolding unmarkedTone
@@ -176,7 +176,7 @@ unmarked-some s =
 
 pub tone-some : (t : Table) (s : List ℕ) → isTone (strip t s).tone ≡ true
 unfolding stripped
-tone-some t s = last_some _ (unmarked-some _) (nfd t s)
+tone-some t s = last-some _ (unmarked-some _) (nfd t s)
 
 -- a stripped text has at most five bytes for each two of the text
 pub stripped-fits : (part u : List ℕ) → part ≡ encode (strip unicode16 u).rest → 2 * length part ≤ 5 * length (encode u)

@@ -22,17 +22,17 @@ use Rattle.ji.specs.Lomaji.Khin.{withoutKhin, khinIn}
 use Rattle.ji.specs.declared.reply.Refusal.{Refusal}
 use Rattle.ji.specs.declared.tone.Tone.{Tone}
 use Rattle.ji.specs.declared.lomaji.khin.Khin.{Khin}
-use Rattle.ji.proofs.Bools.{either, false-true, and_no, and_yes, and-true, number-yes, number-no, text-yes, within-is}
+use Rattle.ji.proofs.Bools.{either, false-true, and-no, and-yes, and-true, number-yes, number-no, text-yes, within-is}
 use Rattle.ji.proofs.Writing.{written-run}
 use Rattle.ji.proofs.text.Laws.{drop-next}
 use Rattle.ji.proofs.lomaji.dot.Laws.{dot-listed}
 use Rattle.ji.proofs.unicode.Ascii.{ascii-low, ascii-rest}
-use Rattle.ji.proofs.unicode.Bytes.{bytes_one, bytes-two, bytes-three, bytes-four, encode-nil, encode-cons}
+use Rattle.ji.proofs.unicode.Bytes.{bytes-one, bytes-two, bytes-three, bytes-four, encode-nil, encode-cons}
 use Rattle.khiin_records.specs.Syllable.{Syllable, raw, pickSyllable, default, toneDigit, khinKey, candidate, candidatesOf, fromComposed, fromRaw, placedRecord, checkKeys}
-use Rattle.khiin_records.specs.RawBytes.{Body, bodyFrom, body_of}
-use Rattle.khiin_records.specs.Alignment.{sharedPrefix, longer, nearest, nearestOf, grows, alignedWith, aligned, align_of, alignCall}
+use Rattle.khiin_records.specs.RawBytes.{Body, bodyFrom, bodyOf}
+use Rattle.khiin_records.specs.Alignment.{sharedPrefix, longer, nearest, nearestOf, grows, alignedWith, aligned, alignOf, alignCall}
 use Rattle.khiin_records.specs.Prefixes.{NearestPrefix}
-use Rattle.khiin_records.proofs.RawBytes.{from-copy, body_is}
+use Rattle.khiin_records.proofs.RawBytes.{from-copy, body-is}
 use Rattle.khiin_records.proofs.Records.{candidates-two, candidates-one}
 use Rattle.khiin_records.proofs.Candidates.{raw-bytes, keys-few}
 
@@ -43,30 +43,30 @@ raw-written t k before mid after n len body w size is room = rw (size, is) (writ
 
 -- ── turn by turn
 module _ (keys s : List ℕ) (i : ℕ) (more : i < length keys) (some : i < length s) where
-  at_place : sharedPrefix (drop i keys) (drop i s) ≡ pickNumber (eqb (lower (get_or keys i 0)) (lower (get_or s i 0))) (suc (sharedPrefix (drop (i + 1) keys) (drop (i + 1) s))) 0
+  at-place : sharedPrefix (drop i keys) (drop i s) ≡ pickNumber (eqb (lower (get_or keys i 0)) (lower (get_or s i 0))) (suc (sharedPrefix (drop (i + 1) keys) (drop (i + 1) s))) 0
   unfolding sharedPrefix
-  at_place = ap₂ sharedPrefix (drop-next keys i more) (drop-next s i some)
+  at-place = ap₂ sharedPrefix (drop-next keys i more) (drop-next s i some)
 
   pub prefix-more : eqb (lower (get_or keys i 0)) (lower (get_or s i 0)) ≡ true → sharedPrefix (drop i keys) (drop i s) ≡ suc (sharedPrefix (drop (i + 1) keys) (drop (i + 1) s))
-  prefix-more e = at_place ∙ number-yes _ _ _ e
+  prefix-more e = at-place ∙ number-yes _ _ _ e
 
   pub prefix-less : eqb (lower (get_or keys i 0)) (lower (get_or s i 0)) ≡ false → sharedPrefix (drop i keys) (drop i s) ≡ 0
-  prefix-less e = at_place ∙ number-no _ _ _ e
+  prefix-less e = at-place ∙ number-no _ _ _ e
 
 without-keys : (s : List ℕ) → sharedPrefix [] s ≡ 0
 unfolding sharedPrefix
 without-keys s = refl
 
-pub with_nothing : (keys : List ℕ) → sharedPrefix keys [] ≡ 0
+pub with-nothing : (keys : List ℕ) → sharedPrefix keys [] ≡ 0
 unfolding sharedPrefix
-with_nothing [] = refl
-with_nothing (k ∷ keys) = refl
+with-nothing [] = refl
+with-nothing (k ∷ keys) = refl
 
 pub prefix-keys-end : (keys s : List ℕ) (i : ℕ) → length keys ≤ i → sharedPrefix (drop i keys) s ≡ 0
 prefix-keys-end keys s i h = ap (λ (l : List ℕ). sharedPrefix l s) (drop_of_length-le keys h) ∙ without-keys s
 
 pub prefix-text-end : (keys s : List ℕ) (i : ℕ) → length s ≤ i → sharedPrefix keys (drop i s) ≡ 0
-prefix-text-end keys s i h = ap (sharedPrefix keys) (drop_of_length-le s h) ∙ with_nothing keys
+prefix-text-end keys s i h = ap (sharedPrefix keys) (drop_of_length-le s h) ∙ with-nothing keys
 
 -- the first byte of a raw input
 pub prefix-first : (keys : List ℕ) (i x : ℕ) (s : List ℕ) → i < length keys
@@ -112,9 +112,9 @@ lower-low x h =
     (λ e. omega (arith, number-yes (within (point "A") (point "Z") x) (x + 32) x e, (within-is (point "A") (point "Z") x e).1))
     (λ e. omega (arith, number-no (within (point "A") (point "Z") x) (x + 32) x e))
 
-lower_high : (x : ℕ) → 0x7F < x → 0x7F < lower x
+lower-high : (x : ℕ) → 0x7F < x → 0x7F < lower x
 unfolding lower
-lower_high x h =
+lower-high x h =
     either (within (point "A") (point "Z") x)
     (λ e. omega (arith, number-yes (within (point "A") (point "Z") x) (x + 32) x e))
     (λ e. omega (arith, number-no (within (point "A") (point "Z") x) (x + 32) x e))
@@ -122,29 +122,29 @@ lower_high x h =
 module _ (k : ℕ) (keys : List ℕ) (low : k ≤ 0x7F) where
   apart : (c : ℕ) (s : List ℕ) → 0x7F < c → sharedPrefix (k ∷ keys) (c ∷ s) ≡ 0
   unfolding sharedPrefix
-  apart c s high = number-no _ _ _ (ne_eqb (lower k) (lower c) (λ e. omega (arith, e, lower-low k low, lower_high c high)))
+  apart c s high = number-no _ _ _ (ne_eqb (lower k) (lower c) (λ e. omega (arith, e, lower-low k low, lower-high c high)))
 
   -- the first byte of a code point above 7F
-  bytes_apart : (c : ℕ) (s : List ℕ) → 0x7F < c → sharedPrefix (k ∷ keys) (encode (c ∷ s)) ≡ 0
-  bytes_apart c s high = by_size (dec_le c 0x7FF) (dec_le c 0xFFFF)
+  bytes-apart : (c : ℕ) (s : List ℕ) → 0x7F < c → sharedPrefix (k ∷ keys) (encode (c ∷ s)) ≡ 0
+  bytes-apart c s high = by-size (dec_le c 0x7FF) (dec_le c 0xFFFF)
     where
       first : (b : ℕ) (r : List ℕ) → encode (c ∷ s) ≡ b ∷ r → 0x7F < b → sharedPrefix (k ∷ keys) (encode (c ∷ s)) ≡ 0
       first b r e h = ap (sharedPrefix (k ∷ keys)) e ∙ apart b r h
 
-      by_size : Dec (c ≤ 0x7FF) → Dec (c ≤ 0xFFFF) → sharedPrefix (k ∷ keys) (encode (c ∷ s)) ≡ 0
-      by_size (yes p) q = first _ _ (encode-cons c s ∙ ap (λ (l : List ℕ). l ++ encode s) (bytes-two c high p)) (omega arith)
-      by_size (no p) (yes q) = first _ _ (encode-cons c s ∙ ap (λ (l : List ℕ). l ++ encode s) (bytes-three c (omega arith) q)) (omega arith)
-      by_size (no p) (no q) = first _ _ (encode-cons c s ∙ ap (λ (l : List ℕ). l ++ encode s) (bytes-four c (omega arith))) (omega arith)
+      by-size : Dec (c ≤ 0x7FF) → Dec (c ≤ 0xFFFF) → sharedPrefix (k ∷ keys) (encode (c ∷ s)) ≡ 0
+      by-size (yes p) q = first _ _ (encode-cons c s ∙ ap (λ (l : List ℕ). l ++ encode s) (bytes-two c high p)) (omega arith)
+      by-size (no p) (yes q) = first _ _ (encode-cons c s ∙ ap (λ (l : List ℕ). l ++ encode s) (bytes-three c (omega arith) q)) (omega arith)
+      by-size (no p) (no q) = first _ _ (encode-cons c s ∙ ap (λ (l : List ℕ). l ++ encode s) (bytes-four c (omega arith))) (omega arith)
 
   bytes-turn : (c : ℕ) (s : List ℕ) → sharedPrefix keys (encode s) ≡ sharedPrefix keys s → sharedPrefix (k ∷ keys) (encode (c ∷ s)) ≡ sharedPrefix (k ∷ keys) (c ∷ s)
   unfolding sharedPrefix
-  bytes-turn c s e = by_size (dec_le c 0x7F)
+  bytes-turn c s e = by-size (dec_le c 0x7F)
     where
-      by_size : Dec (c ≤ 0x7F) → sharedPrefix (k ∷ keys) (encode (c ∷ s)) ≡ sharedPrefix (k ∷ keys) (c ∷ s)
-      by_size (yes p) =
-          ap (sharedPrefix (k ∷ keys)) (encode-cons c s ∙ ap (λ (l : List ℕ). l ++ encode s) (bytes_one c p))
+      by-size : Dec (c ≤ 0x7F) → sharedPrefix (k ∷ keys) (encode (c ∷ s)) ≡ sharedPrefix (k ∷ keys) (c ∷ s)
+      by-size (yes p) =
+          ap (sharedPrefix (k ∷ keys)) (encode-cons c s ∙ ap (λ (l : List ℕ). l ++ encode s) (bytes-one c p))
           ∙ ap (λ (n : ℕ). pickNumber (eqb (lower k) (lower c)) (suc n) 0) e
-      by_size (no p) = bytes_apart c s (omega arith) ∙ sym (apart c s (omega arith))
+      by-size (no p) = bytes-apart c s (omega arith) ∙ sym (apart c s (omega arith))
 
 pub prefix-bytes : (keys s : List ℕ) → allAscii keys ≡ true → sharedPrefix keys (encode s) ≡ sharedPrefix keys s
 prefix-bytes [] s h = without-keys (encode s) ∙ sym (without-keys s)
@@ -180,11 +180,11 @@ module _ (keys : List ℕ) (t : Tone) (k : Khin) (u : List ℕ) where
 -- the prefix that is shared with the nearest candidate, where those shared with the candidates' bytes are known
 module _ (keys : List ℕ) (t : Tone) (k : Khin) (u s : List ℕ) (e : s ≡ encode u) (h : allAscii keys ≡ true) where
   abbrev sharedWith : ℕ → ℕ
-  sharedWith vowel = sharedPrefix keys ((body_of vowel s).text ++ (toneDigit t ++ khinKey k))
+  sharedWith vowel = sharedPrefix keys ((bodyOf vowel s).text ++ (toneDigit t ++ khinKey k))
 
   shares : (vowel : ℕ) → vowel < 0x80 → sharedWith vowel ≡ sharedPrefix keys (raw (spelt keys t k u vowel))
   shares vowel low =
-      ap (λ (l : List ℕ). sharedPrefix keys ((body_of vowel l).text ++ (toneDigit t ++ khinKey k))) e
+      ap (λ (l : List ℕ). sharedPrefix keys ((bodyOf vowel l).text ++ (toneDigit t ++ khinKey k))) e
       ∙ ap (sharedPrefix keys) (raw-bytes t k u vowel low)
       ∙ prefix-bytes keys (raw (spelt keys t k u vowel)) h
 
@@ -214,22 +214,22 @@ unfolding bodyFrom begins
 body-from vowel d t l [] h = ap (λ (x : List ℕ). record { text = x; dotted = t }) (sym (append-nil d))
 body-from vowel d t l (b ∷ s) h =
     let low : b ≤ 0x7F = ascii-low b s h in
-    from-copy vowel d t l b s (and_no _ _ (ne_eqb b 0xCD (λ e. omega (arith, e)))) (and_no _ _ (ne_eqb b 0xE2 (λ e. omega (arith, e))))
-    (and_no _ _ (and_no _ _ (ne_eqb b 0xCC (λ e. omega (arith, e)))))
+    from-copy vowel d t l b s (and-no _ _ (ne_eqb b 0xCD (λ e. omega (arith, e)))) (and-no _ _ (ne_eqb b 0xE2 (λ e. omega (arith, e))))
+    (and-no _ _ (and-no _ _ (ne_eqb b 0xCC (λ e. omega (arith, e)))))
     ∙ body-from vowel (d ++ (b ∷ [])) t b s (ascii-rest b s h)
     ∙ ap (λ (x : List ℕ). record { text = x; dotted = t }) (append_assoc d (b ∷ []) s)
 
 module _ (s : List ℕ) (plain : allAscii s ≡ true) where
-  body-itself : (vowel : ℕ) → body_of vowel s ≡ record { text = s; dotted = false }
-  unfolding body_of
+  body-itself : (vowel : ℕ) → bodyOf vowel s ≡ record { text = s; dotted = false }
+  unfolding bodyOf
   body-itself vowel = body-from vowel [] false 0 s plain
 
   no-dot : (u : List ℕ) → s ≡ encode u → dotIn s ≡ false
   no-dot u e =
       ap dotIn e
       ∙ dot-listed u
-      ∙ ap (λ (b : Body). b.dotted) (sym (body_is (point "u") (omega arith) u))
-      ∙ ap (λ (l : List ℕ). (body_of (point "u") l).dotted) (sym e)
+      ∙ ap (λ (b : Body). b.dotted) (sym (body-is (point "u") (omega arith) u))
+      ∙ ap (λ (l : List ℕ). (bodyOf (point "u") l).dotted) (sym e)
       ∙ ap (λ (b : Body). b.dotted) (body-itself (point "u"))
 
   module _ (keys : List ℕ) (t : Tone) (k : Khin) (h : allAscii keys ≡ true) where
@@ -242,8 +242,8 @@ module _ (s : List ℕ) (plain : allAscii s ≡ true) where
               (is ∙ ap (λ (b : Body). sharedPrefix keys (b.text ++ (toneDigit t ++ khinKey k))) (sym (body-itself (point "u")))) (no-dot u e);
         }
 
-    pub near_within : (n : ℕ) → n ≡ sharedPrefix keys s → n < length s → NearestPrefix keys s t k n
-    near_within n is less = near n (is ∙ sym (prefix-within keys s (toneDigit t ++ khinKey k) (omega (arith, is))))
+    pub near-within : (n : ℕ) → n ≡ sharedPrefix keys s → n < length s → NearestPrefix keys s t k n
+    near-within n is less = near n (is ∙ sym (prefix-within keys s (toneDigit t ++ khinKey k) (omega (arith, is))))
 
     pub near-through : (n m : ℕ) → n ≡ sharedPrefix keys s → length s ≤ n → m ≡ sharedPrefix (drop n keys) (toneDigit t ++ khinKey k) → NearestPrefix keys s t k (n + m)
     near-through n m is more rest =
@@ -264,20 +264,20 @@ digits-first keys at t k some x is b f =
 
 -- whether the key at a place is the tone's digit, past the keys' end and before it
 module _ (keys : List ℕ) (n : ℕ) (t : Tone) (some : isTone t ≡ true) where
-  pub no_key : length keys ≤ n → same (take 1 (drop n keys)) (toneDigit t) ≡ false
+  pub no-key : length keys ≤ n → same (take 1 (drop n keys)) (toneDigit t) ≡ false
   unfolding same
-  no_key h = ap₂ (λ (l d : List ℕ). same (take 1 l) d) (drop_of_length-le keys h) (digit-one t some)
+  no-key h = ap₂ (λ (l d : List ℕ). same (take 1 l) d) (drop_of_length-le keys h) (digit-one t some)
 
   pub key-is : n < length keys → same (take 1 (drop n keys)) (toneDigit t) ≡ eqb (get_or keys n 0) (point "0" + toneNumber t)
   unfolding same
   key-is h = ap₂ (λ (l d : List ℕ). same (take 1 l) d) (drop-next keys n h) (digit-one t some) ∙ and-true _
 
   pub key-inside : same (take 1 (drop n keys)) (toneDigit t) ≡ true → n < length keys
-  key-inside e = by_place (dec_le (length keys) n)
+  key-inside e = by-place (dec_le (length keys) n)
     where
-      by_place : Dec (length keys ≤ n) → n < length keys
-      by_place (yes h) = absurd (false-true (sym (no_key h) ∙ e))
-      by_place (no h) = omega arith
+      by-place : Dec (length keys ≤ n) → n < length keys
+      by-place (yes h) = absurd (false-true (sym (no-key h) ∙ e))
+      by-place (no h) = omega arith
 
 module _ (keys : List ℕ) (s : Syllable) (n : ℕ) (is : n ≡ sharedPrefix keys (raw s)) where
   pub aligned-none : n ≡ 0 → alignedWith keys s ≡ 0
@@ -295,7 +295,7 @@ module _ (keys : List ℕ) (s : Syllable) (n : ℕ) (is : n ≡ sharedPrefix key
     unfolding grows
     grows-is =
         ap (λ (x : Tone). isTone x && same (take 1 (drop (n + 1) keys)) (toneDigit x)) toned
-        ∙ and_yes (isTone t) (same (take 1 (drop (n + 1) keys)) (toneDigit t)) some
+        ∙ and-yes (isTone t) (same (take 1 (drop (n + 1) keys)) (toneDigit t)) some
 
     pub aligned-grown : same (take 1 (drop (n + 1) keys)) (toneDigit t) ≡ true → alignedWith keys s ≡ n + 1
     aligned-grown e = aligned-some h ∙ number-yes _ _ _ (grows-is ∙ e)
@@ -320,18 +320,18 @@ aligned-inside keys t k u some = aligned-fits keys (nearestOf keys (candidatesOf
 module _ (t : Table) (keys target buffer : List ℕ) where
   pub align-keys-refused : (why : Refusal) → checkKeys keys ≡ bad why → refused why buffer ≡ alignCall t keys target buffer
   unfolding alignCall
-  align-keys-refused why e = sym (ap (λ (k : Checked). align_of t k (checkText t target) buffer) e)
+  align-keys-refused why e = sym (ap (λ (k : Checked). alignOf t k (checkText t target) buffer) e)
 
-  pub align-keys-good : checkKeys keys ≡ good keys → align_of t (good keys) (checkText t target) buffer ≡ alignCall t keys target buffer
+  pub align-keys-good : checkKeys keys ≡ good keys → alignOf t (good keys) (checkText t target) buffer ≡ alignCall t keys target buffer
   unfolding alignCall
-  align-keys-good e = sym (ap (λ (k : Checked). align_of t k (checkText t target) buffer) e)
+  align-keys-good e = sym (ap (λ (k : Checked). alignOf t k (checkText t target) buffer) e)
 
-  pub align-target-refused : (why : Refusal) → checkText t target ≡ bad why → refused why buffer ≡ align_of t (good keys) (checkText t target) buffer
-  align-target-refused why e = sym (ap (λ (k : Checked). align_of t (good keys) k buffer) e)
+  pub align-target-refused : (why : Refusal) → checkText t target ≡ bad why → refused why buffer ≡ alignOf t (good keys) (checkText t target) buffer
+  align-target-refused why e = sym (ap (λ (k : Checked). alignOf t (good keys) k buffer) e)
 
   pub align-target-good : (n : ℕ) (u : List ℕ) → checkText t target ≡ good u → n ≡ aligned t keys u
-      → placedRecord 0 (fromRaw (take n keys)) buffer ≡ align_of t (good keys) (checkText t target) buffer
-  align-target-good n u e is = ap (λ (k : ℕ). placedRecord 0 (fromRaw (take k keys)) buffer) is ∙ sym (ap (λ (k : Checked). align_of t (good keys) k buffer) e)
+      → placedRecord 0 (fromRaw (take n keys)) buffer ≡ alignOf t (good keys) (checkText t target) buffer
+  align-target-good n u e is = ap (λ (k : ℕ). placedRecord 0 (fromRaw (take k keys)) buffer) is ∙ sym (ap (λ (k : Checked). alignOf t (good keys) k buffer) e)
 
 -- what is aligned with a text that is not empty, and with the empty one
 pub aligned-text : (t : Table) (keys u : List ℕ) → 0 < length u
@@ -342,4 +342,4 @@ aligned-text t keys (c ∷ s) h = refl
 
 pub aligned-nothing : (t : Table) (keys : List ℕ) → aligned t keys [] ≡ 0
 unfolding aligned fromComposed nearest
-aligned-nothing t keys = aligned-none keys default 0 (sym (with_nothing keys)) refl
+aligned-nothing t keys = aligned-none keys default 0 (sym (with-nothing keys)) refl

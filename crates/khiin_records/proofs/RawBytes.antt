@@ -11,13 +11,13 @@ use lib.ListN.{length, take, length-append}
 use lib.Seq.{take_at}
 use Rattle.ji.specs.Unicode.{listed}
 use Rattle.ji.specs.Text.{point, points, begins, replaceAll}
-use Rattle.ji.specs.Utf8.{bytes_of, encode}
+use Rattle.ji.specs.Utf8.{bytesOf, encode}
 use Rattle.ji.specs.Lomaji.Keys.{respell}
-use Rattle.ji.proofs.Bools.{either, false-true, and_yes, and_no, and-false, or_no}
+use Rattle.ji.proofs.Bools.{either, false-true, and-yes, and-no, and-false, or-no}
 use Rattle.ji.proofs.text.Laws.{begins-point, replace-nil, replace-hit, replace-miss}
-use Rattle.ji.proofs.unicode.Bytes.{bytes_one, bytes-two, bytes-three, bytes-four, encode-nil, encode-cons, begins-bytes, listed_cons}
+use Rattle.ji.proofs.unicode.Bytes.{bytes-one, bytes-two, bytes-three, bytes-four, encode-nil, encode-cons, begins-bytes, listed-cons}
 use Rattle.khiin_records.specs.Syllable.{belowRules, signRules}
-use Rattle.khiin_records.specs.RawBytes.{takesBelow, first_of, second_of, dot, nasal, below, Body, pickBody, bodyFrom, body_of}
+use Rattle.khiin_records.specs.RawBytes.{takesBelow, first_of, second_of, dot, nasal, below, Body, pickBody, bodyFrom, bodyOf}
 use Rattle.khiin_records.proofs.Spelling.{sign-vowel, sign-nasal, sign-other, signs-end}
 
 -- ── the rules of U+0324, all at once
@@ -25,7 +25,7 @@ use Rattle.khiin_records.proofs.Spelling.{sign-vowel, sign-nasal, sign-other, si
 module _ (a b : ℕ) (r : List ℕ) where
   pair-other : (x : ℕ) (s : List ℕ) → (x ≡ a → ⊥) → replaceAll (a ∷ b ∷ []) r (x ∷ s) ≡ x ∷ replaceAll (a ∷ b ∷ []) r s
   unfolding begins
-  pair-other x s h = replace-miss (a ∷ b ∷ []) r x s (and_no (eqb x a) (begins (b ∷ []) s) (ne_eqb x a h))
+  pair-other x s h = replace-miss (a ∷ b ∷ []) r x s (and-no (eqb x a) (begins (b ∷ []) s) (ne_eqb x a h))
 
   pair-apart : (x : ℕ) (s : List ℕ) → begins (b ∷ []) s ≡ false → replaceAll (a ∷ b ∷ []) r (x ∷ s) ≡ x ∷ replaceAll (a ∷ b ∷ []) r s
   unfolding begins
@@ -33,7 +33,7 @@ module _ (a b : ℕ) (r : List ℕ) where
 
   pair-here : (s : List ℕ) → replaceAll (a ∷ b ∷ []) r (a ∷ b ∷ s) ≡ r ++ replaceAll (a ∷ b ∷ []) r s
   unfolding begins
-  pair-here s = replace-hit (a ∷ b ∷ []) r a (b ∷ s) (omega arith) (and_yes (eqb a a) _ (eq-eqb a a refl) ∙ and_yes (eqb b b) true (eq-eqb b b refl))
+  pair-here s = replace-hit (a ∷ b ∷ []) r a (b ∷ s) (omega arith) (and-yes (eqb a a) _ (eq-eqb a a refl) ∙ and-yes (eqb b b) true (eq-eqb b b refl))
 
 -- what a text begins with is no b afterwards, where it was none before
 ahead : (a b x y : ℕ) (s : List ℕ) → (x ≡ b → ⊥) → begins (b ∷ []) s ≡ false → begins (b ∷ []) (replaceAll (a ∷ b ∷ []) (x ∷ y ∷ []) s) ≡ false
@@ -121,7 +121,7 @@ by-letter P a b c d x h =
     (λ e. either (eqb 0x55 x) (λ f. subst P (eqb-true 0x55 x f) b)
     (λ f. either (eqb 0x6F x) (λ g. subst P (eqb-true 0x6F x g) c)
     (λ g. either (eqb 0x4F x) (λ k. subst P (eqb-true 0x4F x k) d)
-    (λ k. absurd (false-true (sym (or_no _ _ e ∙ or_no _ _ f ∙ or_no _ _ g ∙ or_no _ _ k) ∙ h))))))
+    (λ k. absurd (false-true (sym (or-no _ _ e ∙ or-no _ _ f ∙ or-no _ _ g ∙ or-no _ _ k) ∙ h))))))
 
 lowered-with : (s : List ℕ) (x : ℕ) → takesBelow x ≡ true → lowered (x ∷ 0x0324 ∷ s) ≡ first_of x ∷ second_of x ∷ lowered s
 unfolding listed
@@ -155,14 +155,14 @@ module _ (vowel : ℕ) (low : vowel < 0x80) where
       ∙ ap encode (signs-end vowel low)
       ∙ encode-nil
 
-  spelling-other : (c : ℕ) (u : List ℕ) → lowered (c ∷ u) ≡ c ∷ lowered u → (c ≡ 0x0358 → ⊥) → (c ≡ point "ⁿ" → ⊥) → spelling vowel (c ∷ u) ≡ bytes_of c ++ spelling vowel u
+  spelling-other : (c : ℕ) (u : List ℕ) → lowered (c ∷ u) ≡ c ∷ lowered u → (c ≡ 0x0358 → ⊥) → (c ≡ point "ⁿ" → ⊥) → spelling vowel (c ∷ u) ≡ bytesOf c ++ spelling vowel u
   spelling-other c u e n m = ap (λ (l : List ℕ). encode (signs l)) e ∙ ap encode (sign-other vowel low c (lowered u) n m) ∙ encode-cons c (signs (lowered u))
 
   ascii-one : (c : ℕ) (s : List ℕ) → c ≤ 0x7F → encode (signs (c ∷ s)) ≡ c ∷ encode (signs s)
   ascii-one c s h =
       ap encode (sign-other vowel low c s (λ e. omega (arith, e)) (λ e. omega (arith, e)))
       ∙ encode-cons c (signs s)
-      ∙ ap (λ (l : List ℕ). l ++ encode (signs s)) (bytes_one c h)
+      ∙ ap (λ (l : List ℕ). l ++ encode (signs s)) (bytes-one c h)
 
   spelling-dot : (u : List ℕ) → spelling vowel (0x0358 ∷ u) ≡ vowel ∷ spelling vowel u
   unfolding takesBelow listed
@@ -170,7 +170,7 @@ module _ (vowel : ℕ) (low : vowel < 0x80) where
       ap (λ (l : List ℕ). encode (signs l)) (lowered-other 0x0358 u refl)
       ∙ ap encode (sign-vowel vowel low 0x0358 (lowered u) refl)
       ∙ encode-cons vowel (signs (lowered u))
-      ∙ ap (λ (l : List ℕ). l ++ spelling vowel u) (bytes_one vowel (omega arith))
+      ∙ ap (λ (l : List ℕ). l ++ spelling vowel u) (bytes-one vowel (omega arith))
 
   spelling-nasal : (u : List ℕ) → spelling vowel (point "ⁿ" ∷ u) ≡ points "nn" ++ spelling vowel u
   unfolding takesBelow listed
@@ -178,7 +178,7 @@ module _ (vowel : ℕ) (low : vowel < 0x80) where
       ap (λ (l : List ℕ). encode (signs l)) (lowered-other (point "ⁿ") u refl)
       ∙ ap encode (sign-nasal vowel low (point "ⁿ") (lowered u) (λ e. omega (arith, e)) refl)
       ∙ encode-cons 0x6E (0x6E ∷ signs (lowered u))
-      ∙ ap₂ ◌++◌ (bytes_one 0x6E (omega arith)) (encode-cons 0x6E (signs (lowered u)) ∙ ap (λ (l : List ℕ). l ++ spelling vowel u) (bytes_one 0x6E (omega arith)))
+      ∙ ap₂ ◌++◌ (bytes-one 0x6E (omega arith)) (encode-cons 0x6E (signs (lowered u)) ∙ ap (λ (l : List ℕ). l ++ spelling vowel u) (bytes-one 0x6E (omega arith)))
 
   module _ (x : ℕ) (letter : takesBelow x ≡ true) (u : List ℕ) where
     spelling-with : spelling vowel (x ∷ 0x0324 ∷ u) ≡ first_of x ∷ second_of x ∷ spelling vowel u
@@ -199,11 +199,11 @@ module _ (vowel : ℕ) (d : List ℕ) (t : Bool) (l : ℕ) where
     abbrev rest-copied : Body
     rest-copied = bodyFrom vowel 0 (d ++ (b ∷ [])) t b s
 
-    abbrev rest_below : Body
-    rest_below = pickBody (begins below (b ∷ s) && takesBelow l) (bodyFrom vowel 1 letters t b s) rest-copied
+    abbrev rest-below : Body
+    rest-below = pickBody (begins below (b ∷ s) && takesBelow l) (bodyFrom vowel 1 letters t b s) rest-copied
 
     abbrev rest-nasal : Body
-    rest-nasal = pickBody (begins nasal (b ∷ s)) (bodyFrom vowel 2 (d ++ points "nn") t b s) rest_below
+    rest-nasal = pickBody (begins nasal (b ∷ s)) (bodyFrom vowel 2 (d ++ points "nn") t b s) rest-below
 
     pub from-dot : begins dot (b ∷ s) ≡ true → bodyFrom vowel 0 d t l (b ∷ s) ≡ bodyFrom vowel 1 (d ++ (vowel ∷ [])) true b s
     unfolding bodyFrom
@@ -214,14 +214,14 @@ module _ (vowel : ℕ) (d : List ℕ) (t : Bool) (l : ℕ) where
       unfolding bodyFrom
       from-nasal e =
           ap (λ (x : Bool). pickBody x (bodyFrom vowel 1 (d ++ (vowel ∷ [])) true b s) rest-nasal) n
-          ∙ ap (λ (x : Bool). pickBody x (bodyFrom vowel 2 (d ++ points "nn") t b s) rest_below) e
+          ∙ ap (λ (x : Bool). pickBody x (bodyFrom vowel 2 (d ++ points "nn") t b s) rest-below) e
 
       module _ (m : begins nasal (b ∷ s) ≡ false) where
-        from-rest : bodyFrom vowel 0 d t l (b ∷ s) ≡ rest_below
+        from-rest : bodyFrom vowel 0 d t l (b ∷ s) ≡ rest-below
         unfolding bodyFrom
         from-rest =
             ap (λ (x : Bool). pickBody x (bodyFrom vowel 1 (d ++ (vowel ∷ [])) true b s) rest-nasal) n
-            ∙ ap (λ (x : Bool). pickBody x (bodyFrom vowel 2 (d ++ points "nn") t b s) rest_below) m
+            ∙ ap (λ (x : Bool). pickBody x (bodyFrom vowel 2 (d ++ points "nn") t b s) rest-below) m
 
         pub from-below : (begins below (b ∷ s) && takesBelow l) ≡ true → bodyFrom vowel 0 d t l (b ∷ s) ≡ bodyFrom vowel 1 letters t b s
         from-below e = from-rest ∙ ap (λ (x : Bool). pickBody x (bodyFrom vowel 1 letters t b s) rest-copied) e
@@ -236,28 +236,28 @@ last-free vowel d t l k [] h = refl
 last-free vowel d t l k (b ∷ s) h =
     ap (λ (x : Body). pickBody (begins dot (b ∷ s)) (bodyFrom vowel 1 (d ++ (vowel ∷ [])) true b s) (pickBody (begins nasal (b ∷ s)) (bodyFrom vowel 2 (d ++ points "nn") t b s) x)) (at l ∙ sym (at k))
   where
-    at : (l : ℕ) → rest_below vowel d t l b s ≡ rest-copied vowel d t l b s
-    at l = ap (λ (x : Bool). pickBody x (bodyFrom vowel 1 (letters vowel d t l) t b s) (rest-copied vowel d t l b s)) (and_no (begins below (b ∷ s)) (takesBelow l) h)
+    at : (l : ℕ) → rest-below vowel d t l b s ≡ rest-copied vowel d t l b s
+    at l = ap (λ (x : Bool). pickBody x (bodyFrom vowel 1 (letters vowel d t l) t b s) (rest-copied vowel d t l b s)) (and-no (begins below (b ∷ s)) (takesBelow l) h)
 
 -- the bytes of a code point
-dot_at : (u : List ℕ) → begins dot (encode u) ≡ begins (0x0358 ∷ []) u
-unfolding encode bytes_of
-dot_at u = begins-bytes (0x0358 ∷ []) u
+dot-at : (u : List ℕ) → begins dot (encode u) ≡ begins (0x0358 ∷ []) u
+unfolding encode bytesOf
+dot-at u = begins-bytes (0x0358 ∷ []) u
 
 nasal-at : (u : List ℕ) → begins nasal (encode u) ≡ begins (points "ⁿ") u
-unfolding encode bytes_of
+unfolding encode bytesOf
 nasal-at u = begins-bytes (points "ⁿ") u
 
-below_at : (u : List ℕ) → begins below (encode u) ≡ begins (0x0324 ∷ []) u
-unfolding encode bytes_of
-below_at u = begins-bytes (0x0324 ∷ []) u
+below-at : (u : List ℕ) → begins below (encode u) ≡ begins (0x0324 ∷ []) u
+unfolding encode bytesOf
+below-at u = begins-bytes (0x0324 ∷ []) u
 
 -- a byte that goes on with a sequence
 further : (vowel : ℕ) (d : List ℕ) (t : Bool) (l b : ℕ) (s : List ℕ) → 0x80 ≤ b → b < 0xC0 → bodyFrom vowel 0 d t l (b ∷ s) ≡ bodyFrom vowel 0 (d ++ (b ∷ [])) t b s
 unfolding begins
 further vowel d t l b s h k =
-    from-copy vowel d t l b s (and_no _ _ (ne_eqb b 0xCD (λ e. omega (arith, e)))) (and_no _ _ (ne_eqb b 0xE2 (λ e. omega (arith, e))))
-    (and_no _ _ (and_no _ _ (ne_eqb b 0xCC (λ e. omega (arith, e)))))
+    from-copy vowel d t l b s (and-no _ _ (ne_eqb b 0xCD (λ e. omega (arith, e)))) (and-no _ _ (ne_eqb b 0xE2 (λ e. omega (arith, e))))
+    (and-no _ _ (and-no _ _ (ne_eqb b 0xCC (λ e. omega (arith, e)))))
 
 high-plain : (b : ℕ) → 0x80 ≤ b → takesBelow b ≡ false
 high-plain b h = either (takesBelow b) (λ e. absurd (let k = letter-low b e in omega arith)) (λ e. e)
@@ -268,7 +268,7 @@ front : (vowel : ℕ) (t : Bool) (u : List ℕ) (c : ℕ) (d : List ℕ) (l : �
 front vowel t u c d l n m f b s e =
     ap (bodyFrom vowel 0 d t l) e
     ∙ from-copy vowel d t l b s
-    (ap (begins dot) (sym e) ∙ dot_at (c ∷ u) ∙ begins-point 0x0358 c u ∙ ne_eqb c 0x0358 n)
+    (ap (begins dot) (sym e) ∙ dot-at (c ∷ u) ∙ begins-point 0x0358 c u ∙ ne_eqb c 0x0358 n)
     (ap (begins nasal) (sym e) ∙ nasal-at (c ∷ u) ∙ begins-point (point "ⁿ") c u ∙ ne_eqb c (point "ⁿ") m)
     (ap (λ (x : Bool). begins below (b ∷ s) && x) f ∙ and-false (begins below (b ∷ s)))
 
@@ -281,12 +281,12 @@ module _ (vowel : ℕ) (t : Bool) (u : List ℕ) (X : List ℕ → Body) (go : (
     more : (a b : ℕ) (s : List ℕ) (p : List ℕ) → 0x80 ≤ b → b < 0xC0 → bodyFrom vowel 0 p t a (b ∷ s) ≡ bodyFrom vowel 0 (p ++ (b ∷ [])) t b s
     more a b s p h k = further vowel p t a b s h k
 
-    copied-one : c ≤ 0x7F → takesBelow c ≡ false → bodyFrom vowel 0 d t l (encode (c ∷ u)) ≡ X (d ++ bytes_of c)
+    copied-one : c ≤ 0x7F → takesBelow c ≡ false → bodyFrom vowel 0 d t l (encode (c ∷ u)) ≡ X (d ++ bytesOf c)
     copied-one h g =
-        let e = bytes_one c h in
+        let e = bytes-one c h in
         first c (encode u) (encode-cons c u ∙ ap (λ (p : List ℕ). p ++ encode u) e) ∙ go (d ++ (c ∷ [])) c g ∙ ap (λ (p : List ℕ). X (d ++ p)) (sym e)
 
-    copied-two : 0x7F < c → c ≤ 0x7FF → bodyFrom vowel 0 d t l (encode (c ∷ u)) ≡ X (d ++ bytes_of c)
+    copied-two : 0x7F < c → c ≤ 0x7FF → bodyFrom vowel 0 d t l (encode (c ∷ u)) ≡ X (d ++ bytesOf c)
     copied-two h k =
         let e = bytes-two c h k in
         let a = 0xC0 + c / 64 in
@@ -297,7 +297,7 @@ module _ (vowel : ℕ) (t : Bool) (u : List ℕ) (X : List ℕ → Body) (go : (
         ∙ ap X (append_assoc d (a ∷ []) (b ∷ []))
         ∙ ap (λ (p : List ℕ). X (d ++ p)) (sym e)
 
-    copied-three : 0x7FF < c → c ≤ 0xFFFF → bodyFrom vowel 0 d t l (encode (c ∷ u)) ≡ X (d ++ bytes_of c)
+    copied-three : 0x7FF < c → c ≤ 0xFFFF → bodyFrom vowel 0 d t l (encode (c ∷ u)) ≡ X (d ++ bytesOf c)
     copied-three h k =
         let e = bytes-three c h k in
         let a = 0xE0 + c / 4096 in
@@ -310,7 +310,7 @@ module _ (vowel : ℕ) (t : Bool) (u : List ℕ) (X : List ℕ → Body) (go : (
         ∙ ap X (append_assoc (d ++ (a ∷ [])) (b ∷ []) (z ∷ []) ∙ append_assoc d (a ∷ []) (b ∷ z ∷ []))
         ∙ ap (λ (p : List ℕ). X (d ++ p)) (sym e)
 
-    copied-four : 0xFFFF < c → bodyFrom vowel 0 d t l (encode (c ∷ u)) ≡ X (d ++ bytes_of c)
+    copied-four : 0xFFFF < c → bodyFrom vowel 0 d t l (encode (c ∷ u)) ≡ X (d ++ bytesOf c)
     copied-four h =
         let e = bytes-four c h in
         let a = 0xF0 + c / 262144 in
@@ -325,14 +325,14 @@ module _ (vowel : ℕ) (t : Bool) (u : List ℕ) (X : List ℕ → Body) (go : (
         ∙ ap X (append_assoc ((d ++ (a ∷ [])) ++ (b ∷ [])) (y ∷ []) (z ∷ []) ∙ append_assoc (d ++ (a ∷ [])) (b ∷ []) (y ∷ z ∷ []) ∙ append_assoc d (a ∷ []) (b ∷ y ∷ z ∷ []))
         ∙ ap (λ (p : List ℕ). X (d ++ p)) (sym e)
 
-    copied : takesBelow c ≡ false → bodyFrom vowel 0 d t l (encode (c ∷ u)) ≡ X (d ++ bytes_of c)
-    copied g = by_size (dec_le c 0x7F) (dec_le c 0x7FF) (dec_le c 0xFFFF)
+    copied : takesBelow c ≡ false → bodyFrom vowel 0 d t l (encode (c ∷ u)) ≡ X (d ++ bytesOf c)
+    copied g = by-size (dec_le c 0x7F) (dec_le c 0x7FF) (dec_le c 0xFFFF)
       where
-        by_size : Dec (c ≤ 0x7F) → Dec (c ≤ 0x7FF) → Dec (c ≤ 0xFFFF) → bodyFrom vowel 0 d t l (encode (c ∷ u)) ≡ X (d ++ bytes_of c)
-        by_size (yes p) q r = copied-one p g
-        by_size (no p) (yes q) r = copied-two (omega arith) q
-        by_size (no p) (no q) (yes r) = copied-three (omega arith) r
-        by_size (no p) (no q) (no r) = copied-four (omega arith)
+        by-size : Dec (c ≤ 0x7F) → Dec (c ≤ 0x7FF) → Dec (c ≤ 0xFFFF) → bodyFrom vowel 0 d t l (encode (c ∷ u)) ≡ X (d ++ bytesOf c)
+        by-size (yes p) q r = copied-one p g
+        by-size (no p) (yes q) r = copied-two (omega arith) q
+        by-size (no p) (no q) (yes r) = copied-three (omega arith) r
+        by-size (no p) (no q) (no r) = copied-four (omega arith)
 
 -- ── the walk over the bytes of a text makes its body
 module _ (vowel : ℕ) (low : vowel < 0x80) where
@@ -353,13 +353,13 @@ module _ (vowel : ℕ) (low : vowel < 0x80) where
   behind-apart : (u : List ℕ) → Plainly u → begins (0x0324 ∷ []) u ≡ false → Behind u
   unfolding takesBelow listed
   behind-apart u plain h d t x e =
-      last-free vowel (d ++ (x ∷ [])) t x 0 (encode u) (below_at u ∙ h)
+      last-free vowel (d ++ (x ∷ [])) t x 0 (encode u) (below-at u ∙ h)
       ∙ plain (d ++ (x ∷ [])) t 0 refl
       ∙ same-with d (x ∷ []) t (spelling vowel u) (spelling vowel (x ∷ u)) (listed u 0x0358) (listed u 0x0358) (sym (spelling-apart vowel low x e u h)) refl
 
   -- U+0324 takes back the letter
   behind-with : (u : List ℕ) → Plainly u → Behind (0x0324 ∷ u)
-  unfolding encode bytes_of begins bodyFrom takesBelow listed
+  unfolding encode bytesOf begins bodyFrom takesBelow listed
   behind-with u plain d t x e =
       let back : take (length (d ++ (x ∷ [])) - 1) (d ++ (x ∷ [])) ≡ d = take_at d (x ∷ []) (length (d ++ (x ∷ [])) - 1) (omega (arith, length-append d (x ∷ []))) in
       from-below vowel (d ++ (x ∷ [])) t x 0xCC (0xA4 ∷ encode u) refl refl e
@@ -369,7 +369,7 @@ module _ (vowel : ℕ) (low : vowel < 0x80) where
 
   module _ (u : List ℕ) (plain : Plainly u) (behind : Behind u) where
     plain-dot : Plainly (0x0358 ∷ u)
-    unfolding encode bytes_of begins bodyFrom takesBelow listed
+    unfolding encode bytesOf begins bodyFrom takesBelow listed
     plain-dot d t l f =
         from-dot vowel d t l 0xCD (0x98 ∷ encode u) refl
         ∙ plain (d ++ (vowel ∷ [])) true 0x98 refl
@@ -382,7 +382,7 @@ module _ (vowel : ℕ) (low : vowel < 0x80) where
         met false = refl
 
     plain-nasal : Plainly (point "ⁿ" ∷ u)
-    unfolding encode bytes_of begins bodyFrom takesBelow listed
+    unfolding encode bytesOf begins bodyFrom takesBelow listed
     plain-nasal d t l f =
         from-nasal vowel d t l 0xE2 (0x81 ∷ 0xBF ∷ encode u) refl refl
         ∙ plain (d ++ points "nn") t 0xBF refl
@@ -390,18 +390,18 @@ module _ (vowel : ℕ) (low : vowel < 0x80) where
 
     module _ (c : ℕ) (n : (c ≡ 0x0358 → ⊥)) where
       unlisted : listed u 0x0358 ≡ listed (c ∷ u) 0x0358
-      unlisted = sym (listed_cons c u 0x0358 ∙ or_no _ _ (ne_eqb c 0x0358 n))
+      unlisted = sym (listed-cons c u 0x0358 ∙ or-no _ _ (ne_eqb c 0x0358 n))
 
-      plain_other : (c ≡ point "ⁿ" → ⊥) → takesBelow c ≡ false → Plainly (c ∷ u)
-      plain_other m g d t l f =
+      plain-other : (c ≡ point "ⁿ" → ⊥) → takesBelow c ≡ false → Plainly (c ∷ u)
+      plain-other m g d t l f =
           copied vowel t u (λ p. bodyWith p t (spelling vowel u) (listed u 0x0358)) (λ p k h. plain p t k h) c d l n m f g
-          ∙ same-with d (bytes_of c) t (spelling vowel u) (spelling vowel (c ∷ u)) (listed u 0x0358) (listed (c ∷ u) 0x0358)
+          ∙ same-with d (bytesOf c) t (spelling vowel u) (spelling vowel (c ∷ u)) (listed u 0x0358) (listed (c ∷ u) 0x0358)
           (sym (spelling-other vowel low c u (lowered-other c u g) n m)) unlisted
 
       plain-letter : takesBelow c ≡ true → Plainly (c ∷ u)
       plain-letter g d t l f =
           let h = letter-low c g in
-          front vowel t u c d l n (λ e. omega (arith, e)) f c (encode u) (encode-cons c u ∙ ap (λ (p : List ℕ). p ++ encode u) (bytes_one c h))
+          front vowel t u c d l n (λ e. omega (arith, e)) f c (encode u) (encode-cons c u ∙ ap (λ (p : List ℕ). p ++ encode u) (bytes-one c h))
           ∙ behind d t c g
           ∙ ap (bodyWith d t (spelling vowel (c ∷ u))) unlisted
 
@@ -409,11 +409,11 @@ module _ (vowel : ℕ) (low : vowel < 0x80) where
     plainly c =
         either (eqb c 0x0358) (λ e. subst (λ (c : ℕ). Plainly (c ∷ u)) (sym (eqb-true c 0x0358 e)) plain-dot)
         (λ n. either (eqb c (point "ⁿ")) (λ e. subst (λ (c : ℕ). Plainly (c ∷ u)) (sym (eqb-true c (point "ⁿ") e)) plain-nasal)
-        (λ m. either (takesBelow c) (plain-letter c (eqb-false c 0x0358 n)) (plain_other c (eqb-false c 0x0358 n) (eqb-false c (point "ⁿ") m))))
+        (λ m. either (takesBelow c) (plain-letter c (eqb-false c 0x0358 n)) (plain-other c (eqb-false c 0x0358 n) (eqb-false c (point "ⁿ") m))))
 
-  plain_end : Plainly []
+  plain-end : Plainly []
   unfolding bodyFrom encode listed
-  plain_end d t l f =
+  plain-end d t l f =
       ap₂ (λ (text : List ℕ) (dotted : Bool). record { text = text; dotted = dotted })
       (sym (ap (λ (p : List ℕ). d ++ p) (spelling-nil vowel low) ∙ append-nil d)) (sym (unmet t))
     where
@@ -426,7 +426,7 @@ module _ (vowel : ℕ) (low : vowel < 0x80) where
   nothing-below = refl
 
   both : (u : List ℕ) → Plainly u × Behind u
-  both [] = (plain_end, behind-apart [] plain_end nothing-below)
+  both [] = (plain-end, behind-apart [] plain-end nothing-below)
   both (c ∷ u) =
       let h = both u in
       let plain = plainly u h.0 h.1 c in (
@@ -436,6 +436,6 @@ module _ (vowel : ℕ) (low : vowel < 0x80) where
             (λ e. behind-apart (c ∷ u) plain (begins-point 0x0324 c u ∙ e)),
       )
 
-  pub body_is : (u : List ℕ) → body_of vowel (encode u) ≡ record { text = spelling vowel u; dotted = listed u 0x0358 }
-  unfolding body_of takesBelow listed
-  body_is u = (both u).0 [] false 0 refl
+  pub body-is : (u : List ℕ) → bodyOf vowel (encode u) ≡ record { text = spelling vowel u; dotted = listed u 0x0358 }
+  unfolding bodyOf takesBelow listed
+  body-is u = (both u).0 [] false 0 refl

@@ -21,10 +21,10 @@ use Rattle.ji.specs.declared.tone.Tone.{Tone}
 use Rattle.ji.specs.declared.tone.Tone.TheVariants.{None, T1, T2, T3, T4, T5, T6, T7, T8, T9}
 use Rattle.ji.specs.declared.lomaji.khin.Khin.{Khin}
 use Rattle.ji.specs.declared.lomaji.khin.Khin.TheVariants.{No, Yes}
-use Rattle.ji.proofs.Bools.{either, false-true, and_yes, and_left, and_right, text-yes, text-no}
+use Rattle.ji.proofs.Bools.{either, false-true, and-yes, and-left, and-right, text-yes, text-no}
 use Rattle.ji.proofs.Replies.{refusal-some}
-use Rattle.ji.proofs.unicode.Ascii.{ascii-bytes, ascii_take}
-use Rattle.ji.proofs.unicode.Bytes.{but_last, encode-append}
+use Rattle.ji.proofs.unicode.Ascii.{ascii-bytes, ascii-take}
+use Rattle.ji.proofs.unicode.Bytes.{but-last, encode-append}
 use Rattle.khiin_records.specs.Syllable.{Syllable, raw, pickSyllable, toneDigits, keyTone, fromRaw, checkKeys, recorded, placedRecord, recordReply, toneDigit, khinKey, candidate, pickSyllables, candidatesOf, candidateIn}
 use Rattle.khiin_records.specs.Records.{RecordOf}
 use Rattle.khiin_records.specs.declared.Record.{Record}
@@ -39,8 +39,8 @@ module _ (count : ℕ) (s : Syllable) (text buffer : List ℕ) (is-raw : encode 
   abbrev fits : Bool
   fits = leb (length text) (length buffer)
 
-  abbrev out_of : Bool → Reply
-  out_of b = pickReply b (answered 0 text buffer) (refused NoRoom buffer)
+  abbrev outOf : Bool → Reply
+  outOf b = pickReply b (answered 0 text buffer) (refused NoRoom buffer)
 
   is-placed : pickReply fits (recorded count s buffer) (refused NoRoom buffer) ≡ placedRecord count s buffer
   is-placed = ap (λ (l : List ℕ). pickReply (leb (length l) (length buffer)) (recorded count s buffer) (refused NoRoom buffer)) (sym is-raw)
@@ -49,21 +49,21 @@ module _ (count : ℕ) (s : Syllable) (text buffer : List ℕ) (is-raw : encode 
   record-refused why after e = by-room fits refl
     where
       by-room : (b : Bool) → fits ≡ b → refused why after ≡ placedRecord count s buffer
-      by-room true f = absurd (omega (arith, refusal-some why, ap (λ (r : Reply). r.code) (e ∙ ap out_of f)))
-      by-room false f = e ∙ ap out_of f ∙ ap (λ (b : Bool). pickReply b (recorded count s buffer) (refused NoRoom buffer)) (sym f) ∙ is-placed
+      by-room true f = absurd (omega (arith, refusal-some why, ap (λ (r : Reply). r.code) (e ∙ ap outOf f)))
+      by-room false f = e ∙ ap outOf f ∙ ap (λ (b : Bool). pickReply b (recorded count s buffer) (refused NoRoom buffer)) (sym f) ∙ is-placed
 
   pub record-done : (n : ℕ) (after : List ℕ) (r : Record) → textIn n after ≡ placed 0 text buffer → RecordOf count s n r → recordReply (Done r) after ≡ placedRecord count s buffer
   record-done n after r e h = by-room fits refl
     where
       by-room : (b : Bool) → fits ≡ b → recordReply (Done r) after ≡ placedRecord count s buffer
       by-room true f =
-          let k = e ∙ ap out_of f in
+          let k = e ∙ ap outOf f in
           let size : n ≡ length (encode (raw s)) = ap (λ (q : Reply). q.length) k ∙ ap length (sym is-raw) in
           let left : after ≡ over (encode (raw s)) buffer = ap (λ (q : Reply). q.buffer) k ∙ ap (λ (l : List ℕ). over l buffer) (sym is-raw) in
           (rw (h.len, h.count-is, h.body, h.tone, h.khin, size, left) refl)
           ∙ ap (λ (b : Bool). pickReply b (recorded count s buffer) (refused NoRoom buffer)) (sym f)
           ∙ is-placed
-      by-room false f = absurd (let z : ◌≡◌ {A = ℕ} 0 7 = ap (λ (q : Reply). q.code) (e ∙ ap out_of f) in omega arith)
+      by-room false f = absurd (let z : ◌≡◌ {A = ℕ} 0 7 = ap (λ (q : Reply). q.code) (e ∙ ap outOf f) in omega arith)
 
 -- a text that was written has the length that was told
 pub written-size : (n : ℕ) (text after buffer : List ℕ) → textIn n after ≡ placed 0 text buffer → n ≡ length text
@@ -100,9 +100,9 @@ apart : (ms : List (ℕ × Tone)) (c : ℕ) → Apart ms c → None ≡ toneIn m
 apart [] c h = refl
 apart (m ∷ ms) c h = apart ms c h.1 ∙ sym (ap (λ (b : Bool). pickTone b m.1 (toneIn ms c)) (ne_eqb m.0 c (λ e. h.0 (sym e))))
 
-pub no_digit : (c : ℕ) → Apart toneDigits c → None ≡ keyTone c
+pub no-digit : (c : ℕ) → Apart toneDigits c → None ≡ keyTone c
 unfolding keyTone
-no_digit c h = apart toneDigits c h
+no-digit c h = apart toneDigits c h
 
 -- where the last key is a tone there is one
 pub toned-some : (s : List ℕ) → isTone (keyTone (last s)) ≡ true → 0 < length s
@@ -123,7 +123,7 @@ module _ (s : List ℕ) where
   pub raw-is : raw (fromRaw s) ≡ s
   raw-is =
       either (isTone (keyTone (last s)))
-      (λ h. ap raw (raw-toned h) ∙ but_last s (toned-some s h))
+      (λ h. ap raw (raw-toned h) ∙ but-last s (toned-some s h))
       (λ h. ap raw (raw-bare h) ∙ append-nil s)
 
   module _ (h : allAscii s ≡ true) where
@@ -136,7 +136,7 @@ module _ (s : List ℕ) where
         record {
           len = refl;
           count-is = refl;
-          body = sym (ap (λ (r : Syllable). length (encode r.body)) f ∙ ap length (ascii-bytes (take (length s - 1) s) (ascii_take (length s - 1) s h)) ∙ n);
+          body = sym (ap (λ (r : Syllable). length (encode r.body)) f ∙ ap length (ascii-bytes (take (length s - 1) s) (ascii-take (length s - 1) s h)) ∙ n);
           tone = e ∙ sym (ap (λ (r : Syllable). r.tone) f);
           khin = sym (ap (λ (r : Syllable). r.khin) f);
         }
@@ -194,21 +194,21 @@ module _ (t : Tone) (k : Khin) (s : List ℕ) where
   candidates-one e = ap (λ (b : Bool). pickSyllables b (candidate t k s (points "u") ∷ candidate t k s (points "o") ∷ []) (candidate t k s (points "u") ∷ [])) e
 
 -- a position behind the last one
-pub past_one : (a : Syllable) (n : ℕ) (buffer : List ℕ) → (n ≡ 0 → ⊥) → refused Position buffer ≡ candidateIn (a ∷ []) n buffer
-past_one a zero buffer h = absurd (h refl)
-past_one a (suc n) buffer h = refl
+pub past-one : (a : Syllable) (n : ℕ) (buffer : List ℕ) → (n ≡ 0 → ⊥) → refused Position buffer ≡ candidateIn (a ∷ []) n buffer
+past-one a zero buffer h = absurd (h refl)
+past-one a (suc n) buffer h = refl
 
-pub past_two : (a b : Syllable) (n : ℕ) (buffer : List ℕ) → (n ≡ 0 → ⊥) → (n ≡ 1 → ⊥) → refused Position buffer ≡ candidateIn (a ∷ b ∷ []) n buffer
-past_two a b zero buffer h k = absurd (h refl)
-past_two a b (suc zero) buffer h k = absurd (k refl)
-past_two a b (suc (suc n)) buffer h k = refl
+pub past-two : (a b : Syllable) (n : ℕ) (buffer : List ℕ) → (n ≡ 0 → ⊥) → (n ≡ 1 → ⊥) → refused Position buffer ≡ candidateIn (a ∷ b ∷ []) n buffer
+past-two a b zero buffer h k = absurd (h refl)
+past-two a b (suc zero) buffer h k = absurd (k refl)
+past-two a b (suc (suc n)) buffer h k = refl
 
 -- ── the text behind khin
 members-drop : (n : ℕ) (s : List ℕ) → members unicode16 s ≡ true → members unicode16 (drop n s) ≡ true
 unfolding members
 members-drop zero s h = h
 members-drop (suc n) [] h = h
-members-drop (suc n) (c ∷ s) h = members-drop n s (and_right (member unicode16 c) (members unicode16 s) h)
+members-drop (suc n) (c ∷ s) h = members-drop n s (and-right (member unicode16 c) (members unicode16 s) h)
 
 pub members-behind : (s : List ℕ) → members unicode16 s ≡ true → members unicode16 (withoutKhin s) ≡ true
 unfolding withoutKhin

@@ -9,8 +9,8 @@ use lib.ListN.{length}
 use Rattle.ji.specs.Unicode.{listed}
 use Rattle.ji.specs.Text.{point, points, begins, replaceAll}
 use Rattle.ji.specs.Lomaji.Keys.{respell}
-use Rattle.ji.proofs.Bools.{and-false, and_no}
-use Rattle.ji.proofs.unicode.Bytes.{listed_cons}
+use Rattle.ji.proofs.Bools.{and-false, and-no}
+use Rattle.ji.proofs.unicode.Bytes.{listed-cons}
 use Rattle.ji.proofs.text.Laws.{replace-nil, replace-miss, replace-same-length, replace-other, points-first, points-second, points-other, points-growth}
 use Rattle.khiin_records.specs.Syllable.{belowRules, signRules}
 
@@ -25,21 +25,21 @@ module _ (a b : ℕ) where
   unfolding begins
   begins-absent x [] h = and-false (eqb x a)
   begins-absent x (y ∷ s) h =
-      let k = (either-no (eqb x b) (listed (y ∷ s) b) (sym (listed_cons x (y ∷ s) b) ∙ h)).1 in
-      ap (λ (t : Bool). eqb x a && t) (and_no (eqb y b) true (either-no (eqb y b) (listed s b) (sym (listed_cons y s b) ∙ k)).0) ∙ and-false (eqb x a)
+      let k = (either-no (eqb x b) (listed (y ∷ s) b) (sym (listed-cons x (y ∷ s) b) ∙ h)).1 in
+      ap (λ (t : Bool). eqb x a && t) (and-no (eqb y b) true (either-no (eqb y b) (listed s b) (sym (listed-cons y s b) ∙ k)).0) ∙ and-false (eqb x a)
 
   pub absent-pair : (r s : List ℕ) → listed s b ≡ false → replaceAll (a ∷ b ∷ []) r s ≡ s
   absent-pair r [] h = replace-nil (a ∷ b ∷ []) r
   absent-pair r (x ∷ s) h =
       replace-miss (a ∷ b ∷ []) r x s (begins-absent x s h)
-      ∙ ap (λ (l : List ℕ). x ∷ l) (absent-pair r s (either-no (eqb x b) (listed s b) (sym (listed_cons x s b) ∙ h)).1)
+      ∙ ap (λ (l : List ℕ). x ∷ l) (absent-pair r s (either-no (eqb x b) (listed s b) (sym (listed-cons x s b) ∙ h)).1)
 
 pub below-absent : (s : List ℕ) → listed s 0x0324 ≡ false → respell belowRules s ≡ s
 below-absent s h =
     rw (absent-pair 0x75 0x0324 (points "eu") s h, absent-pair 0x55 0x0324 (points "Eu") s h, absent-pair 0x6F 0x0324 (points "eo") s h, absent-pair 0x4F 0x0324 (points "Eo") s h) refl
 
-pub below_length : (s : List ℕ) → length (respell belowRules s) ≡ length s
-below_length s =
+pub below-length : (s : List ℕ) → length (respell belowRules s) ≡ length s
+below-length s =
     replace-same-length (0x4F ∷ 0x0324 ∷ []) (points "Eo") (omega arith) refl _
     ∙ replace-same-length (0x6F ∷ 0x0324 ∷ []) (points "eo") (omega arith) refl _
     ∙ replace-same-length (0x55 ∷ 0x0324 ∷ []) (points "Eu") (omega arith) refl _

@@ -12,10 +12,10 @@ use lib.Seq.{drop-cons, set_at, append_snoc, drop-drop, length-take-le}
 use Rattle.ji.specs.Text.{points, begins}
 use Rattle.ji.specs.Unicode.{listed}
 use Rattle.ji.specs.Written.{Written}
-use Rattle.ji.proofs.Bools.{false-true, and_left, and_no, and-false}
-use Rattle.ji.proofs.Writing.{written_none, written_one, written-run, written-drop, written-length, stores-2}
+use Rattle.ji.proofs.Bools.{false-true, and-left, and-no, and-false}
+use Rattle.ji.proofs.Writing.{written-none, written-one, written-run, written-drop, written-length, stores-2}
 use Rattle.ji.proofs.text.Laws.{drop-next, begins-length, begins-short}
-use Rattle.khiin_records.specs.RawBytes.{takesBelow, first_of, second_of, dot, nasal, below, Body, bodyFrom, body_of, count_of, byteBefore, vowelAt, Walking}
+use Rattle.khiin_records.specs.RawBytes.{takesBelow, first_of, second_of, dot, nasal, below, Body, bodyFrom, bodyOf, count_of, byteBefore, vowelAt, Walking}
 use Rattle.khiin_records.proofs.RawBytes.{from-dot, from-nasal, from-below, from-copy}
 
 -- ── what stands at a place
@@ -59,8 +59,8 @@ module _ (vowel : ℕ) (d : List ℕ) (t : Bool) (s : List ℕ) (i : ℕ) (more 
   abbrev here : Body
   here = bodyFrom vowel 0 d t (byteBefore s i) (drop i s)
 
-  at_place : drop i s ≡ get_or s i 0 ∷ drop (i + 1) s
-  at_place = drop-next s i more
+  at-place : drop i s ≡ get_or s i 0 ∷ drop (i + 1) s
+  at-place = drop-next s i more
 
   -- what is left once a sequence that begins here is passed over
   onward : (p : List ℕ) (u : Bool) (k : ℕ) → i + 1 + k ≤ length s
@@ -70,8 +70,8 @@ module _ (vowel : ℕ) (d : List ℕ) (t : Bool) (s : List ℕ) (i : ℕ) (more 
   at-dot : begins dot (drop i s) ≡ true → here ≡ bodyFrom vowel 0 (d ++ (vowel ∷ [])) true (byteBefore s (i + 2)) (drop (i + 2) s)
   at-dot e =
       let f : i + 1 + 1 ≡ i + 2 = omega arith in
-      ap (bodyFrom vowel 0 d t (byteBefore s i)) at_place
-      ∙ from-dot vowel d t (byteBefore s i) (get_or s i 0) (drop (i + 1) s) (ap (begins dot) (sym at_place) ∙ e)
+      ap (bodyFrom vowel 0 d t (byteBefore s i)) at-place
+      ∙ from-dot vowel d t (byteBefore s i) (get_or s i 0) (drop (i + 1) s) (ap (begins dot) (sym at-place) ∙ e)
       ∙ onward (d ++ (vowel ∷ [])) true 1 (omega (arith, begins-fits dot s i (omega arith) e))
       ∙ ap (λ (j : ℕ). bodyFrom vowel 0 (d ++ (vowel ∷ [])) true (byteBefore s j) (drop j s)) f
 
@@ -79,8 +79,8 @@ module _ (vowel : ℕ) (d : List ℕ) (t : Bool) (s : List ℕ) (i : ℕ) (more 
     at-nasal : begins nasal (drop i s) ≡ true → here ≡ bodyFrom vowel 0 (d ++ points "nn") t (byteBefore s (i + 3)) (drop (i + 3) s)
     at-nasal e =
         let f : i + 1 + 2 ≡ i + 3 = omega arith in
-        ap (bodyFrom vowel 0 d t (byteBefore s i)) at_place
-        ∙ from-nasal vowel d t (byteBefore s i) (get_or s i 0) (drop (i + 1) s) (ap (begins dot) (sym at_place) ∙ no-dot) (ap (begins nasal) (sym at_place) ∙ e)
+        ap (bodyFrom vowel 0 d t (byteBefore s i)) at-place
+        ∙ from-nasal vowel d t (byteBefore s i) (get_or s i 0) (drop (i + 1) s) (ap (begins dot) (sym at-place) ∙ no-dot) (ap (begins nasal) (sym at-place) ∙ e)
         ∙ onward (d ++ points "nn") t 2 (omega (arith, begins-fits nasal s i (omega arith) e))
         ∙ ap (λ (j : ℕ). bodyFrom vowel 0 (d ++ points "nn") t (byteBefore s j) (drop j s)) f
 
@@ -91,17 +91,17 @@ module _ (vowel : ℕ) (d : List ℕ) (t : Bool) (s : List ℕ) (i : ℕ) (more 
       at-below : (begins below (drop i s) && takesBelow (byteBefore s i)) ≡ true → here ≡ bodyFrom vowel 0 letters t (byteBefore s (i + 2)) (drop (i + 2) s)
       at-below e =
           let f : i + 1 + 1 ≡ i + 2 = omega arith in
-          ap (bodyFrom vowel 0 d t (byteBefore s i)) at_place
-          ∙ from-below vowel d t (byteBefore s i) (get_or s i 0) (drop (i + 1) s) (ap (begins dot) (sym at_place) ∙ no-dot) (ap (begins nasal) (sym at_place) ∙ no-nasal)
-          (ap (λ (l : List ℕ). begins below l && takesBelow (byteBefore s i)) (sym at_place) ∙ e)
-          ∙ onward letters t 1 (omega (arith, begins-fits below s i (omega arith) (and_left (begins below (drop i s)) (takesBelow (byteBefore s i)) e)))
+          ap (bodyFrom vowel 0 d t (byteBefore s i)) at-place
+          ∙ from-below vowel d t (byteBefore s i) (get_or s i 0) (drop (i + 1) s) (ap (begins dot) (sym at-place) ∙ no-dot) (ap (begins nasal) (sym at-place) ∙ no-nasal)
+          (ap (λ (l : List ℕ). begins below l && takesBelow (byteBefore s i)) (sym at-place) ∙ e)
+          ∙ onward letters t 1 (omega (arith, begins-fits below s i (omega arith) (and-left (begins below (drop i s)) (takesBelow (byteBefore s i)) e)))
           ∙ ap (λ (j : ℕ). bodyFrom vowel 0 letters t (byteBefore s j) (drop j s)) f
 
-      at_copy : (begins below (drop i s) && takesBelow (byteBefore s i)) ≡ false → here ≡ bodyFrom vowel 0 (d ++ (get_or s i 0 ∷ [])) t (byteBefore s (i + 1)) (drop (i + 1) s)
-      at_copy e =
-          ap (bodyFrom vowel 0 d t (byteBefore s i)) at_place
-          ∙ from-copy vowel d t (byteBefore s i) (get_or s i 0) (drop (i + 1) s) (ap (begins dot) (sym at_place) ∙ no-dot) (ap (begins nasal) (sym at_place) ∙ no-nasal)
-          (ap (λ (l : List ℕ). begins below l && takesBelow (byteBefore s i)) (sym at_place) ∙ e)
+      at-copy : (begins below (drop i s) && takesBelow (byteBefore s i)) ≡ false → here ≡ bodyFrom vowel 0 (d ++ (get_or s i 0 ∷ [])) t (byteBefore s (i + 1)) (drop (i + 1) s)
+      at-copy e =
+          ap (bodyFrom vowel 0 d t (byteBefore s i)) at-place
+          ∙ from-copy vowel d t (byteBefore s i) (get_or s i 0) (drop (i + 1) s) (ap (begins dot) (sym at-place) ∙ no-dot) (ap (begins nasal) (sym at-place) ∙ no-nasal)
+          (ap (λ (l : List ℕ). begins below l && takesBelow (byteBefore s i)) (sym at-place) ∙ e)
           ∙ ap (λ (b : ℕ). bodyFrom vowel 0 (d ++ (get_or s i 0 ∷ [])) t b (drop (i + 1) s)) (sym (before-next s i))
 
 -- the last element that was written is taken back, and two are written
@@ -118,8 +118,8 @@ module _ {before after : List ℕ} {n : ℕ} {d : List ℕ} (w : Written before 
       (sym (drop-cons d (n - 1) 0 (omega (arith, w.size)) ∙ ap (λ (l : List ℕ). get_or d (n - 1) 0 ∷ l) (drop_of_length-le d {i = suc (n - 1)} (omega (arith, w.size)))))
       ∙ take-append-drop (n - 1) d
 
-  taken_back : (x : ℕ) → Written before (set after (n - 1) x) n (kept ++ (x ∷ []))
-  taken_back x =
+  taken-back : (x : ℕ) → Written before (set after (n - 1) x) n (kept ++ (x ∷ []))
+  taken-back x =
       record {
         is = ap (λ (l : List ℕ). set l (n - 1) x) (w.is ∙ ap (λ (l : List ℕ). l ++ drop n before) (sym parted) ∙ append_snoc kept (get_or d (n - 1) 0) (drop n before))
             ∙ set_at kept (get_or d (n - 1) 0) (drop n before) x (n - 1) kept-length
@@ -128,11 +128,11 @@ module _ {before after : List ℕ} {n : ℕ} {d : List ℕ} (w : Written before 
         fits = w.fits;
       }
 
-  written_back : (x y : ℕ) → n < length before → Written before (set (set after (n - 1) x) n y) (n + 1) (take (length d - 1) d ++ (x ∷ y ∷ []))
-  written_back x y more =
+  written-back : (x y : ℕ) → n < length before → Written before (set (set after (n - 1) x) n y) (n + 1) (take (length d - 1) d ++ (x ∷ y ∷ []))
+  written-back x y more =
       subst (λ (l : List ℕ). Written before (set (set after (n - 1) x) n y) (n + 1) l)
       (append_assoc kept (x ∷ []) (y ∷ []) ∙ ap (λ (k : ℕ). take (k - 1) d ++ (x ∷ y ∷ [])) (sym w.size))
-      (written_one (taken_back x) y more)
+      (written-one (taken-back x) y more)
 
 module _ {vowel : ℕ} {s before after : List ℕ} {i n count : ℕ} (h : Walking vowel s before after i n count) (more : i < length s) where
   pub walk-dot : begins dot (drop i s) ≡ true → n < length before → Walking vowel s before (set after n vowel) (i + 2) (n + 1) 2
@@ -144,7 +144,7 @@ module _ {vowel : ℕ} {s before after : List ℕ} {i n count : ℕ} (h : Walkin
         done = h.done ++ (vowel ∷ []);
         dotted = true;
         counted = refl;
-        written = written_one h.written vowel room;
+        written = written-one h.written vowel room;
         rest = sym (at-dot vowel h.done h.dotted s i more e) ∙ h.rest;
       }
 
@@ -167,13 +167,13 @@ module _ {vowel : ℕ} {s before after : List ℕ} {i n count : ℕ} (h : Walkin
           → Walking vowel s before (set (set after (n - 1) (first_of (byteBefore s i))) n (second_of (byteBefore s i))) (i + 2) (n + 1) count
       walk-below e some room =
           record {
-            inside = begins-fits below s i (omega arith) (and_left (begins below (drop i s)) (takesBelow (byteBefore s i)) e);
+            inside = begins-fits below s i (omega arith) (and-left (begins below (drop i s)) (takesBelow (byteBefore s i)) e);
             shorter = omega (arith, h.shorter);
             longer = omega (arith, h.longer);
             done = take (length h.done - 1) h.done ++ (first_of (byteBefore s i) ∷ second_of (byteBefore s i) ∷ []);
             dotted = h.dotted;
             counted = h.counted;
-            written = written_back h.written some (first_of (byteBefore s i)) (second_of (byteBefore s i)) room;
+            written = written-back h.written some (first_of (byteBefore s i)) (second_of (byteBefore s i)) room;
             rest = sym (at-below vowel h.done h.dotted s i more no-dot no-nasal e) ∙ h.rest;
           }
 
@@ -186,30 +186,30 @@ module _ {vowel : ℕ} {s before after : List ℕ} {i n count : ℕ} (h : Walkin
             done = h.done ++ (get_or s i 0 ∷ []);
             dotted = h.dotted;
             counted = h.counted;
-            written = written_one h.written (get_or s i 0) room;
-            rest = sym (at_copy vowel h.done h.dotted s i more no-dot no-nasal e) ∙ h.rest;
+            written = written-one h.written (get_or s i 0) room;
+            rest = sym (at-copy vowel h.done h.dotted s i more no-dot no-nasal e) ∙ h.rest;
           }
 
   -- an ASCII byte is copied
   pub walk-ascii : get_or s i 0 < 0x80 → n < length before → Walking vowel s before (set after n (get_or s i 0)) (i + 1) (n + 1) count
   walk-ascii low room =
-      walk-copy (begins-first 0xCD (0x98 ∷ []) s i more ∙ and_no _ _ (ne_eqb (get_or s i 0) 0xCD (λ e. omega (arith, e))))
-      (begins-first 0xE2 (0x81 ∷ 0xBF ∷ []) s i more ∙ and_no _ _ (ne_eqb (get_or s i 0) 0xE2 (λ e. omega (arith, e))))
-      (and_no _ _ (begins-first 0xCC (0xA4 ∷ []) s i more ∙ and_no _ _ (ne_eqb (get_or s i 0) 0xCC (λ e. omega (arith, e))))) room
+      walk-copy (begins-first 0xCD (0x98 ∷ []) s i more ∙ and-no _ _ (ne_eqb (get_or s i 0) 0xCD (λ e. omega (arith, e))))
+      (begins-first 0xE2 (0x81 ∷ 0xBF ∷ []) s i more ∙ and-no _ _ (ne_eqb (get_or s i 0) 0xE2 (λ e. omega (arith, e))))
+      (and-no _ _ (begins-first 0xCC (0xA4 ∷ []) s i more ∙ and-no _ _ (ne_eqb (get_or s i 0) 0xCC (λ e. omega (arith, e))))) room
 
-pub walk_start : (vowel : ℕ) (s before : List ℕ) → Walking vowel s before before 0 0 1
-unfolding body_of
-walk_start vowel s before =
-    record { inside = omega arith; shorter = omega arith; longer = omega arith; done = []; dotted = false; counted = refl; written = written_none before; rest = refl }
+pub walk-start : (vowel : ℕ) (s before : List ℕ) → Walking vowel s before before 0 0 1
+unfolding bodyOf
+walk-start vowel s before =
+    record { inside = omega arith; shorter = omega arith; longer = omega arith; done = []; dotted = false; counted = refl; written = written-none before; rest = refl }
 
 -- the text is read
 module _ {vowel : ℕ} {s before after : List ℕ} {i n count : ℕ} (h : Walking vowel s before after i n count) where
-  ended : length s ≤ i → record { text = h.done; dotted = h.dotted } ≡ body_of vowel s
+  ended : length s ≤ i → record { text = h.done; dotted = h.dotted } ≡ bodyOf vowel s
   unfolding bodyFrom
   ended end = sym (ap (bodyFrom vowel 0 h.done h.dotted (byteBefore s i)) (drop_of_length-le s end)) ∙ h.rest
 
-  pub walk_end : length s ≤ i → Written before after n (body_of vowel s).text × (count ≡ count_of (body_of vowel s).dotted)
-  walk_end end =
+  pub walk-end : length s ≤ i → Written before after n (bodyOf vowel s).text × (count ≡ count_of (bodyOf vowel s).dotted)
+  walk-end end =
       (subst (Written before after n) (ap (λ (b : Body). b.text) (ended end)) h.written, h.counted ∙ ap (λ (b : Body). count_of b.dotted) (ended end))
 
   -- the same walk, from the buffer as it is by now

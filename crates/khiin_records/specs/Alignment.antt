@@ -39,10 +39,10 @@ aligned t keys target = alignedWith keys (nearestOf keys (fromComposed t target)
 
 -- ── the call
 -- "The answer is length and `from_raw` of that many keys"; "alignment [takes] the raw keys, then the target"
-abbrev pub align_of : Table → Checked → Checked → List ℕ → Reply
-align_of t (good keys) (good target) buffer = placedRecord 0 (fromRaw (take (aligned t keys target) keys)) buffer
-align_of t (good keys) (bad why) buffer = refused why buffer
-align_of t (bad why) target buffer = refused why buffer
+abbrev pub alignOf : Table → Checked → Checked → List ℕ → Reply
+alignOf t (good keys) (good target) buffer = placedRecord 0 (fromRaw (take (aligned t keys target) keys)) buffer
+alignOf t (good keys) (bad why) buffer = refused why buffer
+alignOf t (bad why) target buffer = refused why buffer
 
 unfoldable pub alignCall : Table → List ℕ → List ℕ → List ℕ → Reply
-alignCall t keys target buffer = align_of t (checkKeys keys) (checkText t target) buffer
+alignCall t keys target buffer = alignOf t (checkKeys keys) (checkText t target) buffer

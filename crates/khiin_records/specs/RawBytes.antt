@@ -46,8 +46,8 @@ bodyFrom vowel zero done dotted last (b ∷ s) =
 bodyFrom vowel (suc skip) done dotted last (b ∷ s) = bodyFrom vowel skip done dotted b s
 
 -- of a whole text, with `vowel` for U+0358
-unfoldable pub body_of : ℕ → List ℕ → Body
-body_of vowel s = bodyFrom vowel 0 [] false 0 s
+unfoldable pub bodyOf : ℕ → List ℕ → Body
+bodyOf vowel s = bodyFrom vowel 0 [] false 0 s
 
 -- how many candidates a text has
 abbrev pub count_of : Bool → ℕ
@@ -74,4 +74,4 @@ pub record Walking (vowel : ℕ) (s before after : List ℕ) (i n count : ℕ) :
   pub dotted : Bool
   pub counted : count ≡ count_of dotted
   pub written : Written before after n done
-  pub rest : bodyFrom vowel 0 done dotted (byteBefore s i) (drop i s) ≡ body_of vowel s
+  pub rest : bodyFrom vowel 0 done dotted (byteBefore s i) (drop i s) ≡ bodyOf vowel s

@@ -7,8 +7,8 @@ ghost use Rattle.ji.specs.Tone.{isTone};
 ghost use Rattle.ji.specs.Reply.{good, checkText};
 ghost use Rattle.ji.specs.Lomaji.Khin.{withoutKhin, khinIn};
 ghost use Rattle.khiin_records.specs.Syllable.{Syllable, raw, toneDigit, khinKey, candidatesOf, recordReply};
-ghost use Rattle.khiin_records.specs.RawBytes.{body_of};
-ghost use Rattle.khiin_records.specs.Alignment.{sharedPrefix, nearestOf, alignedWith, align_of, alignCall};
+ghost use Rattle.khiin_records.specs.RawBytes.{bodyOf};
+ghost use Rattle.khiin_records.specs.Alignment.{sharedPrefix, nearestOf, alignedWith, alignOf, alignCall};
 ghost use Rattle.khiin_records.specs.Prefixes.{NearestPrefix};
 
 use crate::Recorded;
@@ -61,7 +61,7 @@ fn candidate_prefix(
     letters: &mut [u8],
 ) -> usize
     requires { (isTone tone ≡ true) × (length s.now + 2 ≤ length letters.old) }
-    ensures { result ≡ sharedPrefix keys.now ((body_of vowel s.now).text ++ (toneDigit tone ++ khinKey khin)) }
+    ensures { result ≡ sharedPrefix keys.now ((bodyOf vowel s.now).text ++ (toneDigit tone ++ khinKey khin)) }
 {
     let spelled = spell(s, vowel, letters);
     let body = spelled.len;
@@ -207,7 +207,7 @@ fn align_stripped(keys: &[u8], stripped: &[u8], tone: Tone) -> usize
 // The record of the keys, checked already, that are aligned with a target that is not empty. `stripped` is used up.
 fn align_in(keys: &[u8], target: &[u8], stripped: &mut [u8], out: &mut [u8]) -> Recorded
     requires { (allAscii keys.now ≡ true) × (0 < length target.now) × (5 * length target.now ≤ 2 * length stripped.old) × (length stripped.old ≤ 640) }
-    ensures { recordReply result out.new ≡ align_of unicode16 (good keys.now) (checkText unicode16 target.now) out.old }
+    ensures { recordReply result out.new ≡ alignOf unicode16 (good keys.now) (checkText unicode16 target.now) out.old }
 {
     match strip::strip_tone_diacritic(target, stripped) {
         Strip::Refused(why) => Recorded::Refused(why),
@@ -224,7 +224,7 @@ fn align_in(keys: &[u8], target: &[u8], stripped: &mut [u8], out: &mut [u8]) -> 
 // A target of at most 16 bytes: clearing a small buffer is quicker.
 fn align_short(keys: &[u8], target: &[u8], out: &mut [u8]) -> Recorded
     requires { (allAscii keys.now ≡ true) × (0 < length target.now) × (length target.now ≤ 16) }
-    ensures { recordReply result out.new ≡ align_of unicode16 (good keys.now) (checkText unicode16 target.now) out.old }
+    ensures { recordReply result out.new ≡ alignOf unicode16 (good keys.now) (checkText unicode16 target.now) out.old }
 {
     let mut stripped = [0u8; 40];
     align_in(keys, target, &mut stripped, out)
@@ -233,7 +233,7 @@ fn align_short(keys: &[u8], target: &[u8], out: &mut [u8]) -> Recorded
 // A target of at most 256 bytes.
 fn align_long(keys: &[u8], target: &[u8], out: &mut [u8]) -> Recorded
     requires { (allAscii keys.now ≡ true) × (0 < length target.now) × (length target.now ≤ 256) }
-    ensures { recordReply result out.new ≡ align_of unicode16 (good keys.now) (checkText unicode16 target.now) out.old }
+    ensures { recordReply result out.new ≡ alignOf unicode16 (good keys.now) (checkText unicode16 target.now) out.old }
 {
     let mut stripped = [0u8; 640];
     align_in(keys, target, &mut stripped, out)
@@ -242,7 +242,7 @@ fn align_long(keys: &[u8], target: &[u8], out: &mut [u8]) -> Recorded
 // The record of the keys, checked already, that are aligned with a target. With the empty target, whose one candidate is the default, that is none.
 fn align(keys: &[u8], target: &[u8], out: &mut [u8]) -> Recorded
     requires { allAscii keys.now ≡ true }
-    ensures { recordReply result out.new ≡ align_of unicode16 (good keys.now) (checkText unicode16 target.now) out.old }
+    ensures { recordReply result out.new ≡ alignOf unicode16 (good keys.now) (checkText unicode16 target.now) out.old }
 {
     if target.len() == 0 {
         place_keys(&keys[0..0], out)

@@ -10,7 +10,7 @@ ghost use Rattle.ji.specs.Lomaji.Dot.{dotIn};
 ghost use Rattle.ji.specs.Lomaji.Khin.{withoutKhin, khinIn};
 ghost use Rattle.ji.specs.Lomaji.Keys.{respell};
 ghost use Rattle.khiin_records.specs.Syllable.{raw, default, belowRules, signRules, toneDigit, khinKey, candidate, candidatesOf, placedRecord, candidateIn, candidateCall, recordReply};
-ghost use Rattle.khiin_records.specs.RawBytes.{takesBelow, first_of, second_of, nasal, below, body_of, count_of, vowelAt, byteBefore, Walking};
+ghost use Rattle.khiin_records.specs.RawBytes.{takesBelow, first_of, second_of, nasal, below, bodyOf, count_of, vowelAt, byteBefore, Walking};
 
 use crate::{Record, Recorded};
 use ji::lomaji::dot::holds_dot;
@@ -330,8 +330,8 @@ fn copy_ascii(s: &[u8], out: &mut [u8]) -> usize
 // Goes on from `start`, where all before is copied. U+0324 takes back the letter that was written before it.
 fn spell_rest(s: &[u8], start: usize, vowel: u8, out: &mut [u8]) -> Spelled
     requires { (length s.now ≤ length out.old) × Walking vowel s.now out.old out.old start start 1 }
-    ensures { (start ≤ result.len) × Written out.old out.new result.len (body_of vowel s.now).text × (result.len ≤ length s.now)
-        × (result.count ≡ count_of (body_of vowel s.now).dotted) }
+    ensures { (start ≤ result.len) × Written out.old out.new result.len (bodyOf vowel s.now).text × (result.len ≤ length s.now)
+        × (result.count ≡ count_of (bodyOf vowel s.now).dotted) }
 {
     let mut i: usize = start;
     let mut n: usize = start;
@@ -368,8 +368,8 @@ fn spell_rest(s: &[u8], start: usize, vowel: u8, out: &mut [u8]) -> Spelled
 // Writes the body of the candidate that has `vowel` for U+0358 to the front of `out`.
 pub(crate) fn spell(s: &[u8], vowel: u8, out: &mut [u8]) -> Spelled
     requires { length s.now ≤ length out.old }
-    ensures { Written out.old out.new result.len (body_of vowel s.now).text × (result.len ≤ length s.now)
-        × (result.count ≡ count_of (body_of vowel s.now).dotted) }
+    ensures { Written out.old out.new result.len (bodyOf vowel s.now).text × (result.len ≤ length s.now)
+        × (result.count ≡ count_of (bodyOf vowel s.now).dotted) }
 {
     let start = copy_ascii(s, out);
     spell_rest(s, start, vowel, out)

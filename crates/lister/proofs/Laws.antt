@@ -9,8 +9,8 @@ use Rattle.ji.specs.Reply.{over}
 use Rattle.khiin_entries.specs.Listing.{listing, shown}
 use Rattle.khiin_entries.proofs.listing.Fitting.{fit-most, going-count}
 
-pub block_inside : (text before after : List ℕ) (len : ℕ) → len ≡ length text → after ≡ over text before → length after ≡ length before → len ≤ length after
-block_inside text before after len l is same = omega (arith, ap length is, length-append text (drop (length text) before), length-drop (length text) before)
+pub block-inside : (text before after : List ℕ) (len : ℕ) → len ≡ length text → after ≡ over text before → length after ≡ length before → len ≤ length after
+block-inside text before after len l is same = omega (arith, ap length is, length-append text (drop (length text) before), length-drop (length text) before)
 
 pub next-inside : (entry : List ℕ) (from room next : ℕ) → next ≡ from + length (shown unicode16 entry from room) → (from ≤ next) × (next ≤ from + (length (listing unicode16 entry) - from))
 unfolding shown

@@ -13,9 +13,9 @@ use Rattle.robinflint.specs.declared.reply.Reply.{Reply}
 use Rattle.robinflint.specs.Reply.{replyOf}
 use Rattle.replay.specs.declared.record.Header.{Header}
 use Rattle.replay.specs.Record.{known, replayable}
-use Rattle.replay.specs.Calls.{answer_of}
+use Rattle.replay.specs.Calls.{answerOf}
 use Rattle.replay.specs.Replay.{Agrees}
-use Rattle.replay.specs.Expected.{Says, untouched, written, said, same_numbers, AsSaid}
+use Rattle.replay.specs.Expected.{Says, untouched, written, said, sameNumbers, AsSaid}
 
 false-true : false ≡ true → ⊥
 false-true e = let z : ◌≡◌ {A = ℕ} 0 1 = cc in omega arith
@@ -46,7 +46,7 @@ one-touched s i h f e = f (ap (λ (l : List ℕ). get_or l i 0) e ∙ untouched-
 
 pub record Parts (h : Header) (wanted : List ℕ) (r : Reply) (buffer : List ℕ) : Type 0 where
   pub count : length wanted ≡ written h
-  pub numbers : same_numbers (replyOf r []) (said h []) ≡ true
+  pub numbers : sameNumbers (replyOf r []) (said h []) ≡ true
   pub room : length wanted ≤ length buffer
   pub front : take (length wanted) buffer ≡ wanted
   pub rest : drop (length wanted) buffer ≡ untouched (length (drop (length wanted) buffer))
@@ -54,8 +54,8 @@ pub record Parts (h : Header) (wanted : List ℕ) (r : Reply) (buffer : List ℕ
 eqb-self : (n : ℕ) → eqb n n ≡ true
 eqb-self n = eq-eqb n n refl
 
-same_self : (x : ji.Reply) → same_numbers x x ≡ true
-same_self x = simp eqb-self
+same-self : (x : ji.Reply) → sameNumbers x x ≡ true
+same-self x = simp eqb-self
 
 split : (a b : Bool) → (a && b) ≡ true → (a ≡ true) × (b ≡ true)
 split true b e = (refl, e)
@@ -69,13 +69,13 @@ parts h wanted r buffer (n, e) =
     let d : drop (length wanted) buffer ≡ untouched (length buffer - length wanted) = ap (drop (length wanted)) b ∙ drop-append_seam wanted (untouched (length buffer - length wanted)) in
     record {
       count = n;
-      numbers = ap (λ (x : ji.Reply). same_numbers x (said h [])) e ∙ same_self (said h []);
+      numbers = ap (λ (x : ji.Reply). sameNumbers x (said h [])) e ∙ same-self (said h []);
       room = omega arith;
       front = ap (take (length wanted)) b ∙ take-append_seam wanted (untouched (length buffer - length wanted));
       rest = d ∙ ap untouched (sym (length-drop (length wanted) buffer));
     }
 
-same-buffer : (x y : ji.Reply) → same_numbers x y ≡ true → x.buffer ≡ y.buffer → x ≡ y
+same-buffer : (x y : ji.Reply) → sameNumbers x y ≡ true → x.buffer ≡ y.buffer → x ≡ y
 same-buffer x y e b =
     let s7 = split _ _ e in
     let s6 = split _ _ s7.0 in
@@ -106,7 +106,7 @@ whole h wanted r buffer p = (
 
 -- where all but the last part holds, the last part decides
 pub rest-decides : (h : Header) (wanted : List ℕ) (r : Reply) (buffer : List ℕ) (b : Bool) → length wanted ≡ written h
-    → same_numbers (replyOf r []) (said h []) ≡ true
+    → sameNumbers (replyOf r []) (said h []) ≡ true
     → length wanted ≤ length buffer
     → take (length wanted) buffer ≡ wanted
     → Says b (take (length buffer - length wanted) (drop (length wanted) buffer) ≡ untouched (length (take (length buffer - length wanted) (drop (length wanted) buffer))))
@@ -142,7 +142,7 @@ room h e =
 pub agrees-by : (h : Header) (body other wanted buffer : List ℕ) (r : ji.Reply) (b : Bool) → other ≡ take h.other (drop h.input body)
     → wanted ≡ take h.wanted (drop (h.input + h.other) body)
     → buffer ≡ untouched 3136
-    → r ≡ answer_of h (take h.input body) other buffer
+    → r ≡ answerOf h (take h.input body) other buffer
     → Says b (AsSaid h wanted r)
     → Says b (Agrees h body)
 agrees-by h body other wanted buffer r b eo ew eb er s = rw (← eo, ← ew, ← eb, ← er) s

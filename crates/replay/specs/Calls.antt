@@ -54,8 +54,8 @@ choose n r0 r1 r2 r3 r4 r5 r6 r7 =
     (pickReply (eqb n 2) r2 (pickReply (eqb n 3) r3 (pickReply (eqb n 4) r4 (pickReply (eqb n 5) r5 (pickReply (eqb n 6) r6 r7))))))
 
 -- what the call of a header replies to its texts, with the whole buffer, of which the first bytes were lent to it
-unfoldable pub answer_of : Header → List ℕ → List ℕ → List ℕ → Reply
-answer_of h text other buffer =
+unfoldable pub answerOf : Header → List ℕ → List ℕ → List ℕ → Reply
+answerOf h text other buffer =
     choose h.call
     (lend (stripCall unicode16 text) h.lent buffer)
     (beside (toneLetterCall unicode16 text) buffer)

@@ -3,8 +3,8 @@ use Rattle.std.specs.Prelude.{Bool, ◌&&◌, ◌||◌, List, ℕ, ◌+◌, ◌*
 use Rattle.replay.specs.declared.record.Header.{Header}
 
 -- the number in two bytes, the low one first
-abbrev pub pair_at : List ℕ → ℕ → ℕ
-pair_at s i = get_or s i 0 + 256 * get_or s (i + 1) 0
+abbrev pub pairAt : List ℕ → ℕ → ℕ
+pairAt s i = get_or s i 0 + 256 * get_or s (i + 1) 0
 
 -- the number that eight bytes are, the lowest one first
 abbrev pub eight : ℕ → ℕ → ℕ → ℕ → ℕ → ℕ → ℕ → ℕ → ℕ
@@ -23,15 +23,15 @@ headerOf s =
       first = get_or s 1 0;
       second = get_or s 2 0;
       code = get_or s 3 0;
-      input = pair_at s 4;
-      other = pair_at s 6;
-      lent = pair_at s 8;
-      length = pair_at s 10;
-      body = pair_at s 12;
+      input = pairAt s 4;
+      other = pairAt s 6;
+      lent = pairAt s 8;
+      length = pairAt s 10;
+      body = pairAt s 12;
       tone = get_or s 14 0;
       khin = get_or s 15 0;
-      position = pair_at s 16;
-      wanted = pair_at s 18;
+      position = pairAt s 16;
+      wanted = pairAt s 18;
       asked = eightAt s 20;
       count = eightAt s 28;
     }

@@ -1,7 +1,7 @@
 // The calls by their numbers.
 ghost use Rattle.std.specs.Prelude.{◌≡◌, ◌≤◌, length};
 ghost use Rattle.robinflint.specs.Reply.{replyOf};
-ghost use Rattle.replay.specs.Calls.{answer_of, sevenOf, syllableAnswer};
+ghost use Rattle.replay.specs.Calls.{answerOf, sevenOf, syllableAnswer};
 
 use crate::record::Header;
 use robinflint::reply::Reply;
@@ -9,7 +9,7 @@ use robinflint::reply::Reply;
 // Makes the call of a header, with the first bytes of `buffer` lent to it where it takes a buffer. `other` is the second text.
 pub(crate) fn answer(h: Header, text: &[u8], other: &[u8], buffer: &mut [u8]) -> Reply
     requires { h.lent ≤ length buffer.old }
-    ensures { replyOf result buffer.new ≡ answer_of h text.now other.now buffer.old }
+    ensures { replyOf result buffer.new ≡ answerOf h text.now other.now buffer.old }
 {
     let lent = h.lent;
     let call = h.call;

@@ -1,7 +1,7 @@
 // Whether a reply and the buffer are as a record says.
 ghost use Rattle.std.specs.Prelude.{◌≡◌, [], length};
 ghost use Rattle.robinflint.specs.Reply.{replyOf};
-ghost use Rattle.replay.specs.Expected.{Says, untouched, written, said, same_numbers, AsSaid};
+ghost use Rattle.replay.specs.Expected.{Says, untouched, written, said, sameNumbers, AsSaid};
 
 use crate::record::Header;
 use robinflint::reply::Reply;
@@ -41,7 +41,7 @@ pub(crate) fn bytes_written(h: Header) -> usize
 
 // Whether the numbers of a reply are the header's.
 pub(crate) fn has_numbers(reply: Reply, h: Header) -> bool
-    ensures { result ≡ same_numbers (replyOf reply []) (said h []) }
+    ensures { result ≡ sameNumbers (replyOf reply []) (said h []) }
 {
     (reply.code == h.code as u64)
         & (reply.length == h.length as u64)

@@ -10,7 +10,7 @@ use lib.ListN.{length, drop_of_length-le}
 use Rattle.ji.specs.Unicode.{pickNumber, same}
 use Rattle.ji.specs.Text.{lower}
 use Rattle.ji.specs.Tone.{isTone}
-use Rattle.ji.proofs.Bools.{either, and_no}
+use Rattle.ji.proofs.Bools.{either, and-no}
 use Rattle.khiin_records.specs.Syllable.{Syllable, raw}
 use Rattle.khiin_records.specs.Alignment.{sharedPrefix, longer, grows, alignedWith}
 
@@ -55,7 +55,7 @@ unfolding grows same
 grows-not keys n s h =
     either (isTone s.tone)
     (λ y. rw (y, drop_of_length-le keys {i = n + 1} (omega arith)))
-    (λ e. and_no _ _ e)
+    (λ e. and-no _ _ e)
 
 pub aligned-all : (keys : List ℕ) (s : Syllable) → 0 < length keys → HasAll keys s → alignedWith keys s ≡ length keys
 unfolding alignedWith

@@ -15,7 +15,7 @@ use Rattle.ji.specs.declared.reply.Refusal.{Refusal}
 use Rattle.ji.specs.declared.reply.Refusal.TheVariants.{Argument, Position, NoRoom}
 use Rattle.ji.proofs.Replies.{refusal-some}
 use Rattle.khiin_entries.specs.KeySequence.{keyings, checkEntry, keyed, placedKeying, keyingOf, keyingCall}
-use Rattle.khiin_entries.proofs.key_sequence.Splitting.{map_at}
+use Rattle.khiin_entries.proofs.key_sequence.Splitting.{map-at}
 use Rattle.robinflint.specs.Arguments.{kind_of, keyingNumbered}
 use Rattle.grammar.specs.WellFormed.{Texts}
 use Rattle.roundtrip.specs.Demand3.{listFor, keyingFor, given, Answered}
@@ -35,7 +35,7 @@ module _ (bytes text : List ℕ) (kind position : ℕ) (buffer : List ℕ) where
 
   output-is : keyingFor kind text position ≡ output
   unfolding listFor
-  output-is = map_at texts position
+  output-is = map-at texts position
 
   count-is : length (listFor kind text) ≡ length texts
   unfolding listFor

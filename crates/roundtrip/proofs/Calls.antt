@@ -30,11 +30,11 @@ use Rattle.ji.proofs.unicode.Ascii.{ascii-bytes, ascii-good}
 use Rattle.ji.proofs.unicode.Bytes.{same-equal}
 use Rattle.ji.proofs.unicode.Checked.{check-passes}
 use Rattle.khiin_records.specs.Syllable.{Syllable, raw, keyTone, fromRaw, candidate, pickSyllables, candidatesOf, fromComposed, recorded, placedRecord, checkKeys, fromRawOf, fromRawCall}
-use Rattle.khiin_records.specs.Alignment.{nearest, nearestOf, alignedWith, aligned, align_of, alignCall, sharedPrefix}
+use Rattle.khiin_records.specs.Alignment.{nearest, nearestOf, alignedWith, aligned, alignOf, alignCall, sharedPrefix}
 use Rattle.khiin.specs.Syllable.{encoded, mark_of, composedAt, composedWith, compose, composeOf, composeCall}
 use Rattle.robinflint.specs.Arguments.{toneOf, composeNumbered}
 use Rattle.grammar.specs.WellFormed.{WellFormed, stopped, tonesOf, unmarked, withMark, text}
-use Rattle.sweep.proofs.Tests.{each_holds}
+use Rattle.sweep.proofs.Tests.{each-holds}
 use Rattle.sweep.proofs.Unmarked.{vowelOf}
 use Rattle.sweep.proofs.Syllables.{syllable-text, unmarked-sound}
 use Rattle.roundtrip.specs.Demand3.{syllableBytes, output, composed, Returns}
@@ -48,7 +48,7 @@ stop-tone false = refl
 
 some-tone : (s : WellFormed) → isTone s.tone ≡ true
 some-tone s =
-    each_holds (λ t. isTone t ≡ true) (tonesOf s.rime) (stop-tone (stopped s.rime), (refl, (refl, (refl, (refl, (refl, (refl, (refl, tt)))))))) s.tone s.tone-in
+    each-holds (λ t. isTone t ≡ true) (tonesOf s.rime) (stop-tone (stopped s.rime), (refl, (refl, (refl, (refl, (refl, (refl, (refl, tt)))))))) s.tone s.tone-in
 
 key-tone : (tone : Tone) → keyTone (digitOf tone) ≡ tone
 unfolding keyTone
@@ -80,9 +80,9 @@ tone-of T9 = refl
 snoc-length : (s : List ℕ) (d : ℕ) → length s ≡ length (s ++ (d ∷ [])) - 1
 snoc-length s d = omega (arith, length-append s (d ∷ []))
 
-pub last_snoc : (s : List ℕ) (d : ℕ) → last (s ++ (d ∷ [])) ≡ d
+pub last-snoc : (s : List ℕ) (d : ℕ) → last (s ++ (d ∷ [])) ≡ d
 unfolding last
-last_snoc s d = get_or_at s d [] 0 (length (s ++ (d ∷ [])) - 1) (snoc-length s d)
+last-snoc s d = get_or_at s d [] 0 (length (s ++ (d ∷ [])) - 1) (snoc-length s d)
 
 but-last-snoc : (s : List ℕ) (d : ℕ) → butLast 1 (s ++ (d ∷ [])) ≡ s
 unfolding butLast
@@ -125,22 +125,22 @@ module _ (s : WellFormed) where
   candidate-raw form =
       ap₂ (λ (u v : List ℕ). u ++ (v ++ [])) ((unmarked-sound s).candidate form) (text-yes (isTone s.tone) (digitOf s.tone ∷ []) [] (some-tone s))
 
-  has_all : (form : Form) → HasAll (numbered s form) (candidateIn form)
-  has_all form = ap (sharedPrefix (numbered s form)) (candidate-raw form) ∙ shared-itself (numbered s form)
+  has-all : (form : Form) → HasAll (numbered s form) (candidateIn form)
+  has-all form = ap (sharedPrefix (numbered s form)) (candidate-raw form) ∙ shared-itself (numbered s form)
 
   -- the forms of a text without 0358 are one
-  one_form : listed (unmarked s) 0x0358 ≡ false → numbered s Oo ≡ numbered s Plain
-  one_form e =
+  one-form : listed (unmarked s) 0x0358 ≡ false → numbered s Oo ≡ numbered s Plain
+  one-form e =
       ap (λ (u : List ℕ). u ++ (digitOf s.tone ∷ []))
       (sym (same-equal (bare s Plain) (bare s Oo) (subst T (sym ((unmarked-sound s).differ ∙ ap not e)) tt)))
 
   nearest-has-all : (form : Form) (b : Bool) → listed (unmarked s) 0x0358 ≡ b
       → HasAll (numbered s form) (nearestOf (numbered s form) (pickSyllables b (candidateIn Plain ∷ candidateIn Oo ∷ []) (candidateIn Plain ∷ [])))
   unfolding nearest
-  nearest-has-all Plain true e = longer-earlier (numbered s Plain) (candidateIn Plain) (candidateIn Oo) (has_all Plain)
-  nearest-has-all Oo true e = longer-later (numbered s Oo) (candidateIn Plain) (candidateIn Oo) (has_all Oo)
-  nearest-has-all Plain false e = has_all Plain
-  nearest-has-all Oo false e = subst (λ (p : List ℕ). HasAll p (candidateIn Plain)) (sym (one_form e)) (has_all Plain)
+  nearest-has-all Plain true e = longer-earlier (numbered s Plain) (candidateIn Plain) (candidateIn Oo) (has-all Plain)
+  nearest-has-all Oo true e = longer-later (numbered s Oo) (candidateIn Plain) (candidateIn Oo) (has-all Oo)
+  nearest-has-all Plain false e = has-all Plain
+  nearest-has-all Oo false e = subst (λ (p : List ℕ). HasAll p (candidateIn Plain)) (sym (one-form e)) (has-all Plain)
 
   pub aligned-whole : (form : Form) → aligned unicode16 (numbered s form) (text s) ≡ length (numbered s form)
   unfolding aligned
@@ -161,7 +161,7 @@ module _ (s : WellFormed) (form : Form) where
   pub from-raw : fromRaw piece ≡ its
   unfolding fromRaw
   from-raw =
-      rw (but-last-snoc (bare s form) (digitOf s.tone), last_snoc (bare s form) (digitOf s.tone), key-tone s.tone, some-tone s)
+      rw (but-last-snoc (bare s form) (digitOf s.tone), last-snoc (bare s form) (digitOf s.tone), key-tone s.tone, some-tone s)
 
   keys-good : checkKeys piece ≡ good piece
   unfolding checkKeys
@@ -174,14 +174,14 @@ module _ (s : WellFormed) (form : Form) where
   unfolding checkText
   target-good = let k = (syllable-text s).short in check-passes 256 (text s) (syllable-text s).inside (omega arith)
 
-  piece_bytes : encode piece ≡ piece
-  piece_bytes = ascii-bytes piece (numbered-ascii s form)
+  piece-bytes : encode piece ≡ piece
+  piece-bytes = ascii-bytes piece (numbered-ascii s form)
 
   module _ (keys out : List ℕ) (room : length piece ≤ length keys) (fits : length (syllableBytes s) ≤ length out) where
     read-reply : placedRecord 0 (fromRaw piece) keys ≡ recorded 0 its keys
     read-reply =
         ap (λ (r : Syllable). placedRecord 0 r keys) from-raw
-        ∙ ap (λ (b : Bool). pickReply b (recorded 0 its keys) (refused NoRoom keys)) (le-leb (length (encode piece)) (length keys) (rw piece_bytes room))
+        ∙ ap (λ (b : Bool). pickReply b (recorded 0 its keys) (refused NoRoom keys)) (le-leb (length (encode piece)) (length keys) (rw piece-bytes room))
 
     raw-reply : fromRawCall piece keys ≡ recorded 0 its keys
     unfolding fromRawCall
@@ -190,13 +190,13 @@ module _ (s : WellFormed) (form : Form) where
     align-reply : alignCall unicode16 piece (syllableBytes s) keys ≡ recorded 0 its keys
     unfolding alignCall
     align-reply =
-        ap₂ (λ (c d : Checked). align_of unicode16 c d keys) keys-good target-good
+        ap₂ (λ (c d : Checked). alignOf unicode16 c d keys) keys-good target-good
         ∙ ap (λ (n : ℕ). placedRecord 0 (fromRaw (take n piece)) keys) (aligned-whole s form)
         ∙ ap (λ (u : List ℕ). placedRecord 0 (fromRaw u) keys) (take-length piece)
         ∙ read-reply
 
     output-piece : output (recorded 0 its keys) ≡ piece
-    output-piece = take-append_seam (encode piece) (drop (length (encode piece)) keys) ∙ piece_bytes
+    output-piece = take-append_seam (encode piece) (drop (length (encode piece)) keys) ∙ piece-bytes
 
     output-body : take (length (encode (bare s form))) piece ≡ bare s form
     output-body = rw (ascii-bytes (bare s form) (bare-ascii s form)) (take-append_seam (bare s form) (digitOf s.tone ∷ []))
@@ -221,6 +221,6 @@ module _ (s : WellFormed) (form : Form) where
               ∙ ap (λ (u : List ℕ). composeNumbered piece u (toneNumber s.tone) 0 out) output-body
               ∙ compose-reply;
           aligns = ap (λ (r : Reply). r.code) align-reply;
-          whole = ap (λ (r : Reply). r.length) align-reply ∙ ap length piece_bytes;
-          digit = last_snoc (bare s form) (digitOf s.tone);
+          whole = ap (λ (r : Reply). r.length) align-reply ∙ ap length piece-bytes;
+          digit = last-snoc (bare s form) (digitOf s.tone);
         }

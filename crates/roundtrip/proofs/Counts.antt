@@ -15,14 +15,14 @@ use Rattle.ji.specs.declared.lomaji.keys.Form.{Form}
 use Rattle.ji.specs.declared.lomaji.keys.Form.TheVariants.{Plain, Oo}
 use Rattle.ji.specs.declared.lomaji.keys.Kind.{Kind}
 use Rattle.ji.specs.declared.lomaji.keys.Kind.TheVariants.{Detoned, Numeric, Telex}
-use Rattle.ji.proofs.unicode.Ascii.{ascii_nil, ascii-bytes}
-use Rattle.khiin_entries.specs.KeySequence.{pickTexts, each, product, forms, choices, list_of}
+use Rattle.ji.proofs.unicode.Ascii.{ascii-nil, ascii-bytes}
+use Rattle.khiin_entries.specs.KeySequence.{pickTexts, each, product, forms, choices, listOf}
 use Rattle.khiin_entries.proofs.key_sequence.Product.{size, length-product}
 use Rattle.grammar.specs.WellFormed.{Texts, passing, WellFormed, text, Few, dotted, dots}
 use Rattle.sweep.proofs.Tests.{Each}
 use Rattle.roundtrip.specs.Demand3.{listFor, list, several, counted, digits, isNumbered}
 use Rattle.roundtrip.proofs.Digits.{passing-all, holds-append, holds-each, numbered-product}
-use Rattle.roundtrip.proofs.Keys.{ascii_append, bare, numbered, bare-ascii, numbered-ascii, formsOf, forms-are, forms-numeric, forms-detoned, alone-forms, holds-forms, digits-apart}
+use Rattle.roundtrip.proofs.Keys.{ascii-append, bare, numbered, bare-ascii, numbered-ascii, formsOf, forms-are, forms-numeric, forms-detoned, alone-forms, holds-forms, digits-apart}
 use Rattle.roundtrip.proofs.Entries.{keyings-entry}
 
 -- ── all keyings
@@ -36,8 +36,8 @@ count-forms s f = by (dotted s)
 length-forms : (kind : Kind) (s : WellFormed) → length (forms unicode16 kind (text s)) ≡ pickNumber (dotted s) 2 1
 length-forms kind s = ap length (forms-are s kind) ∙ count-forms s (λ form. keys unicode16 form kind (text s))
 
-length_both : (kind : Kind) (s : WellFormed) → length (forms unicode16 kind (text s) ++ forms unicode16 Detoned (text s)) ≡ pickNumber (dotted s) 4 2
-length_both kind s =
+length-both : (kind : Kind) (s : WellFormed) → length (forms unicode16 kind (text s) ++ forms unicode16 Detoned (text s)) ≡ pickNumber (dotted s) 4 2
+length-both kind s =
     length-append (forms unicode16 kind (text s)) (forms unicode16 Detoned (text s))
     ∙ ap₂ ◌+◌ (length-forms kind s) (length-forms Detoned s)
     ∙ by (dotted s)
@@ -70,10 +70,10 @@ size-choices Detoned [] = refl
 size-choices Numeric [] = refl
 size-choices Telex [] = refl
 size-choices Detoned (s ∷ ss) = ap₂ ◌*◌ (length-forms Detoned s) (size-choices Detoned ss) ∙ two-or-one (dotted s) (dots ss)
-size-choices Numeric (s ∷ ss) = ap₂ ◌*◌ (length_both Numeric s) (size-choices Numeric ss) ∙ four-or-two (dotted s) (length ss) (dots ss) (dots-most ss)
-size-choices Telex (s ∷ ss) = ap₂ ◌*◌ (length_both Telex s) (size-choices Telex ss) ∙ four-or-two (dotted s) (length ss) (dots ss) (dots-most ss)
+size-choices Numeric (s ∷ ss) = ap₂ ◌*◌ (length-both Numeric s) (size-choices Numeric ss) ∙ four-or-two (dotted s) (length ss) (dots ss) (dots-most ss)
+size-choices Telex (s ∷ ss) = ap₂ ◌*◌ (length-both Telex s) (size-choices Telex ss) ∙ four-or-two (dotted s) (length ss) (dots ss) (dots-most ss)
 
-pub count-list : (kind : Kind) (ss : List WellFormed) → Few ss → length (list_of unicode16 kind (map text ss)) ≡ counted kind (length ss) (dots ss)
+pub count-list : (kind : Kind) (ss : List WellFormed) → Few ss → length (listOf unicode16 kind (map text ss)) ≡ counted kind (length ss) (dots ss)
 count-list kind [] f = absurd (let n = f.some in let q : ⊥ = omega arith in q)
 count-list kind (s ∷ []) f = ap length (alone-forms s kind) ∙ length-forms kind s ∙ by (dotted s)
   where
@@ -97,7 +97,7 @@ numeric-choices : (ss : List WellFormed) → choicesOf Numeric ss ≡ map all-nu
 numeric-choices [] = refl
 numeric-choices (s ∷ ss) = ap₂ ◌∷◌ (ap₂ ◌++◌ (forms-numeric s) (forms-detoned s)) (numeric-choices ss)
 
-numeric-alone : (s : WellFormed) → list_of unicode16 Numeric (map text (s ∷ [])) ≡ toned s
+numeric-alone : (s : WellFormed) → listOf unicode16 Numeric (map text (s ∷ [])) ≡ toned s
 numeric-alone s = alone-forms s Numeric ∙ forms-numeric s
 
 -- they are ASCII, so that their bytes are their keys
@@ -105,13 +105,13 @@ abbrev Ascii : List ℕ → Type 0
 Ascii t = allAscii t ≡ true
 
 ascii-product : (ss : List WellFormed) → Each Ascii (product (map all-numeric ss))
-ascii-product [] = (ascii_nil, tt)
+ascii-product [] = (ascii-nil, tt)
 ascii-product (s ∷ ss) =
-    holds-each Ascii Ascii Ascii ascii_append (all-numeric s) (product (map all-numeric ss))
+    holds-each Ascii Ascii Ascii ascii-append (all-numeric s) (product (map all-numeric ss))
     (holds-append Ascii (toned s) (formsOf s (bare s)) (holds-forms s Ascii (numbered s) (numbered-ascii s)) (holds-forms s Ascii (bare s) (bare-ascii s)))
     (ascii-product ss)
 
-ascii-list : (ss : List WellFormed) → Each Ascii (list_of unicode16 Numeric (map text ss))
+ascii-list : (ss : List WellFormed) → Each Ascii (listOf unicode16 Numeric (map text ss))
 ascii-list [] = tt
 ascii-list (s ∷ []) = rw (numeric-alone s) (holds-forms s Ascii (numbered s) (numbered-ascii s))
 ascii-list (s ∷ (r ∷ ss)) = subst (λ (cs : List Texts). Each Ascii (product cs)) (sym (numeric-choices (s ∷ (r ∷ ss)))) (ascii-product (s ∷ (r ∷ ss)))
@@ -120,9 +120,9 @@ own-bytes : (ts : Texts) → Each Ascii ts → map encode ts ≡ ts
 own-bytes [] h = refl
 own-bytes (t ∷ ts) h = ap₂ ◌∷◌ (ascii-bytes t h.0) (own-bytes ts h.1)
 
-pub list-numeric : (ss : List WellFormed) → Few ss → list 1 ss ≡ list_of unicode16 Numeric (map text ss)
+pub list-numeric : (ss : List WellFormed) → Few ss → list 1 ss ≡ listOf unicode16 Numeric (map text ss)
 unfolding listFor
-list-numeric ss f = ap (map encode) (keyings-entry ss f Numeric) ∙ own-bytes (list_of unicode16 Numeric (map text ss)) (ascii-list ss)
+list-numeric ss f = ap (map encode) (keyings-entry ss f Numeric) ∙ own-bytes (listOf unicode16 Numeric (map text ss)) (ascii-list ss)
 
 -- ── the fully numbered ones are the combinations of the forms with their digits
 each-end : (xs : Texts) → each xs ([] ∷ []) ≡ xs
@@ -133,7 +133,7 @@ one-numbered : (xs : Texts) → Each (λ x. digits x ≡ 1) xs → Each (λ x. i
 one-numbered [] h = tt
 one-numbered (x ∷ xs) h = (ap (λ (n : ℕ). eqb n 1) h.0, one-numbered xs h.1)
 
-passing-list : (ss : List WellFormed) → Few ss → passing (isNumbered (length ss)) (list_of unicode16 Numeric (map text ss)) ≡ product (map toned ss)
+passing-list : (ss : List WellFormed) → Few ss → passing (isNumbered (length ss)) (listOf unicode16 Numeric (map text ss)) ≡ product (map toned ss)
 passing-list [] f = absurd (let n = f.some in let q : ⊥ = omega arith in q)
 passing-list (s ∷ []) f =
     ap (passing (isNumbered 1)) (numeric-alone s)

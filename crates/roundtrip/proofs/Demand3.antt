@@ -16,8 +16,8 @@ use Rattle.khiin.specs.Syllable.{compose}
 use Rattle.robinflint.specs.Arguments.{kind_of}
 use Rattle.grammar.specs.WellFormed.{Texts, WellFormed, text, spaced, entry, Few, dots}
 use Rattle.roundtrip.specs.Demand3.{listFor, entryBytes, list, keyingAt, counted, isNumbered, Numbered, cut, Returning, OfEntry, Demand3}
-use Rattle.roundtrip.proofs.Digits.{cut-piece, passing-in, each_in, getD-in}
-use Rattle.roundtrip.proofs.Keys.{digitOf, tone-digit, bare, numbered, bare-keys, piece_of}
+use Rattle.roundtrip.proofs.Digits.{cut-piece, passing-in, each-in, getD-in}
+use Rattle.roundtrip.proofs.Keys.{digitOf, tone-digit, bare, numbered, bare-keys, piece-of}
 use Rattle.roundtrip.proofs.Calls.{compose-text, from-raw, returns}
 use Rattle.roundtrip.proofs.AnyEntry.{call-answered}
 use Rattle.roundtrip.proofs.Entries.{keyings-entry, entry-answers}
@@ -46,9 +46,9 @@ record Parted (keying : List ℕ) (ss : List WellFormed) : Type 0 where
 part : (ss : List WellFormed) (t : List ℕ) → Memᴰ t (product (map toned ss)) → Parted t ss
 part [] t m = record { pieces = []; is = Memᴰ.eq_of_singleton m; paired = tt }
 part (s ∷ ss) t m =
-    let (p, rest, p-in, is, rest_in) = each_in t (toned s) (product (map toned ss)) m in
-    let q = part ss rest rest_in in
-    record { pieces = p ∷ q.pieces; is = is ∙ ap (λ (u : List ℕ). p ++ u) q.is; paired = (piece_of s p p-in, q.paired) }
+    let (p, rest, p-in, is, rest-in) = each-in t (toned s) (product (map toned ss)) m in
+    let q = part ss rest rest-in in
+    record { pieces = p ∷ q.pieces; is = is ∙ ap (λ (u : List ℕ). p ++ u) q.is; paired = (piece-of s p p-in, q.paired) }
 
 parted : (ss : List WellFormed) → Few ss → (position : ℕ) → Numbered ss position → Parted (keyingAt 1 ss position) ss
 parted ss f position n =
@@ -69,11 +69,11 @@ cut-joined (p ∷ ps) (s ∷ ss) h =
     ∙ cut-piece (bare s form) (digitOf s.tone) (joined ps) (bare-keys s form) (tone-digit s.tone)
     ∙ ap₂ ◌∷◌ (sym is) (cut-joined ps ss h.1)
 
-as_many : (ps : Texts) (ss : List WellFormed) → Paired ps ss → length ps ≡ length ss
-as_many [] [] h = refl
-as_many [] (s ∷ ss) h = absurd h
-as_many (p ∷ ps) [] h = absurd h
-as_many (p ∷ ps) (s ∷ ss) h = ap suc (as_many ps ss h.1)
+as-many : (ps : Texts) (ss : List WellFormed) → Paired ps ss → length ps ≡ length ss
+as-many [] [] h = refl
+as-many [] (s ∷ ss) h = absurd h
+as-many (p ∷ ps) [] h = absurd h
+as-many (p ∷ ps) (s ∷ ss) h = ap suc (as-many ps ss h.1)
 
 all-return : (ps : Texts) (ss : List WellFormed) → Paired ps ss → Returning ps ss
 all-return [] [] h = tt
@@ -97,9 +97,9 @@ texts-of [] (s ∷ ss) h = absurd h
 texts-of (p ∷ ps) [] h = absurd h
 texts-of (p ∷ ps) (s ∷ ss) h = ap₂ ◌∷◌ (piece-text p s h.0) (texts-of ps ss h.1)
 
-one_entry : {t u : List ℕ} {ss rs : List WellFormed} → t ≡ u → Parted t ss → Parted u rs → entryBytes ss ≡ entryBytes rs
+one-entry : {t u : List ℕ} {ss rs : List WellFormed} → t ≡ u → Parted t ss → Parted u rs → entryBytes ss ≡ entryBytes rs
 unfolding entry
-one_entry {t} {u} {ss} {rs} e p q =
+one-entry {t} {u} {ss} {rs} e p q =
     let cuts : cut t ≡ p.pieces ++ ([] ∷ []) = ap cut p.is ∙ cut-joined p.pieces ss p.paired in
     let same-cuts : cut u ≡ q.pieces ++ ([] ∷ []) = ap cut q.is ∙ cut-joined q.pieces rs q.paired in
     let one : p.pieces ≡ q.pieces = append_cancel_right p.pieces q.pieces ([] ∷ []) (sym cuts ∙ ap cut e ∙ same-cuts) in
@@ -122,10 +122,10 @@ of-entry ss f =
           record {
             pieces = p.pieces;
             cuts = ap cut p.is ∙ cut-joined p.pieces ss p.paired;
-            many = as_many p.pieces ss p.paired;
+            many = as-many p.pieces ss p.paired;
             returning = all-return p.pieces ss p.paired;
           };
-      only = λ rs g i j n m e. one_entry e (parted ss f i n) (parted rs g j m);
+      only = λ rs g i j n m e. one-entry e (parted ss f i n) (parted rs g j m);
     }
 
 pub demand3 : Demand3

@@ -15,9 +15,9 @@ use Rattle.grammar.specs.WellFormed.{Texts, pickTexts, passing}
 use Rattle.sweep.proofs.Tests.{Each}
 use Rattle.roundtrip.specs.Demand3.{isDigit, digits, isNumbered, cut}
 
-pub digits_append : (s t : List ℕ) → digits (s ++ t) ≡ digits s + digits t
-digits_append [] t = omega arith
-digits_append (c ∷ s) t = by (isDigit c) (digits_append s t)
+pub digits-append : (s t : List ℕ) → digits (s ++ t) ≡ digits s + digits t
+digits-append [] t = omega arith
+digits-append (c ∷ s) t = by (isDigit c) (digits-append s t)
   where
     by : (b : Bool) → digits (s ++ t) ≡ digits s + digits t → pickNumber b (suc (digits (s ++ t))) (digits (s ++ t)) ≡ pickNumber b (suc (digits s)) (digits s) + digits t
     by true e = omega arith
@@ -34,7 +34,7 @@ bare-digits [] h = refl
 bare-digits (c ∷ s) h = rw h.0 (bare-digits s h.1)
 
 pub one-digit : (s : List ℕ) (d : ℕ) → Bare s → isDigit d ≡ true → digits (s ++ (d ∷ [])) ≡ 1
-one-digit s d h e = digits_append s (d ∷ []) ∙ (rw (bare-digits s h, e) refl)
+one-digit s d h e = digits-append s (d ∷ []) ∙ (rw (bare-digits s h, e) refl)
 
 pub cut-piece : (s : List ℕ) (d : ℕ) (t : List ℕ) → Bare s → isDigit d ≡ true → cut ((s ++ (d ∷ [])) ++ t) ≡ (s ++ (d ∷ [])) ∷ cut t
 cut-piece [] d t h e = rw e
@@ -69,16 +69,16 @@ module _ (f : List ℕ → Bool) where
 abbrev behind : List ℕ → Texts → Texts
 behind x ts = map (λ (t : List ℕ). x ++ t) ts
 
-each_append : (xs ys ts : Texts) → each (xs ++ ys) ts ≡ each xs ts ++ each ys ts
-each_append [] ys ts = refl
-each_append (x ∷ xs) ys ts = rw (each_append xs ys ts) (sym (append_assoc (behind x ts) (each xs ts) (each ys ts)))
+each-append : (xs ys ts : Texts) → each (xs ++ ys) ts ≡ each xs ts ++ each ys ts
+each-append [] ys ts = refl
+each-append (x ∷ xs) ys ts = rw (each-append xs ys ts) (sym (append_assoc (behind x ts) (each xs ts) (each ys ts)))
 
 -- a text with one digit in front: the test for one digit more keeps as many; a text with none: it keeps nothing
 module _ (x : List ℕ) (n : ℕ) where
   behind-one : digits x ≡ 1 → (ts : Texts) → passing (isNumbered (suc n)) (behind x ts) ≡ behind x (passing (isNumbered n) ts)
   behind-one e [] = refl
   behind-one e (t ∷ ts) =
-      let test : isNumbered (suc n) (x ++ t) ≡ isNumbered n t = ap (λ (k : ℕ). eqb k (suc n)) (digits_append x t ∙ (rw e (omega arith))) ∙ eqb-suc-suc (digits t) n in
+      let test : isNumbered (suc n) (x ++ t) ≡ isNumbered n t = ap (λ (k : ℕ). eqb k (suc n)) (digits-append x t ∙ (rw e (omega arith))) ∙ eqb-suc-suc (digits t) n in
       rw test (by (isNumbered n t) (behind-one e ts))
     where
       by : (b : Bool) → passing (isNumbered (suc n)) (behind x ts) ≡ behind x (passing (isNumbered n) ts)
@@ -92,7 +92,7 @@ module _ (x : List ℕ) (n : ℕ) where
     where
       by : (b : Bool) → (T b → digits (x ++ t) ≡ suc n) → passing (isNumbered (suc n)) (behind x ts) ≡ []
           → pickTexts b ((x ++ t) ∷ passing (isNumbered (suc n)) (behind x ts)) (passing (isNumbered (suc n)) (behind x ts)) ≡ []
-      by true k h = let few = a.0 in absurd (omega (arith, k tt, digits_append x t))
+      by true k h = let few = a.0 in absurd (omega (arith, k tt, digits-append x t))
       by false k h = h
 
 module _ (n : ℕ) (ts : Texts) where
@@ -100,9 +100,9 @@ module _ (n : ℕ) (ts : Texts) where
   each-one [] a = refl
   each-one (x ∷ xs) a = passing-append (isNumbered (suc n)) (behind x ts) (each xs ts) ∙ (rw (behind-one x n a.0 ts, each-one xs a.1))
 
-  each_none : (xs : Texts) → Each (λ x. digits x ≡ 0) xs → Each (λ t. digits t ≤ n) ts → passing (isNumbered (suc n)) (each xs ts) ≡ []
-  each_none [] a few = refl
-  each_none (x ∷ xs) a few = passing-append (isNumbered (suc n)) (behind x ts) (each xs ts) ∙ (rw (behind-none x n a.0 ts few, each_none xs a.1 few))
+  each-none : (xs : Texts) → Each (λ x. digits x ≡ 0) xs → Each (λ t. digits t ≤ n) ts → passing (isNumbered (suc n)) (each xs ts) ≡ []
+  each-none [] a few = refl
+  each-none (x ∷ xs) a few = passing-append (isNumbered (suc n)) (behind x ts) (each xs ts) ∙ (rw (behind-none x n a.0 ts few, each-none xs a.1 few))
 
 module _ (P : List ℕ → Type 0) where
   pub holds-append : (xs ys : Texts) → Each P xs → Each P ys → Each P (xs ++ ys)
@@ -135,7 +135,7 @@ module _ {A : Type 0} (toned plain : A → Texts) (ok : (a : A) → Choices (ton
   few-digits : (parts : List A) → Each (λ t. digits t ≤ length parts) (product (map choices parts))
   few-digits [] = (omega arith, tt)
   few-digits (a ∷ parts) =
-      holds-each (λ t. digits t ≤ suc (length parts)) (λ x. digits x ≤ 1) (λ t. digits t ≤ length parts) (λ x t h k. omega (arith, digits_append x t))
+      holds-each (λ t. digits t ≤ suc (length parts)) (λ x. digits x ≤ 1) (λ t. digits t ≤ length parts) (λ x t h k. omega (arith, digits-append x t))
       (choices a) (product (map choices parts))
       (holds-append (λ x. digits x ≤ 1) (toned a) (plain a)
       (holds-weaker (λ x. digits x ≡ 1) (λ x. digits x ≤ 1) (λ t e. omega arith) (toned a) (ok a).one)
@@ -148,14 +148,14 @@ module _ {A : Type 0} (toned plain : A → Texts) (ok : (a : A) → Choices (ton
   numbered-product (a ∷ parts) =
       let ts = product (map choices parts) in
       let n = length parts in
-      ap (passing (isNumbered (suc n))) (each_append (toned a) (plain a) ts)
+      ap (passing (isNumbered (suc n))) (each-append (toned a) (plain a) ts)
       ∙ passing-append (isNumbered (suc n)) (each (toned a) ts) (each (plain a) ts)
-      ∙ (rw (each-one n ts (toned a) (ok a).one, each_none n ts (plain a) (ok a).none (few-digits parts), numbered-product parts) (append-nil (each (toned a) (product (map toned parts)))))
+      ∙ (rw (each-one n ts (toned a) (ok a).one, each-none n ts (plain a) (ok a).none (few-digits parts), numbered-product parts) (append-nil (each (toned a) (product (map toned parts)))))
 
 -- ── what a combination is made of
-pub each_in : (t : List ℕ) (xs ts : Texts) → Memᴰ t (each xs ts) → (x : List ℕ) × (u : List ℕ) × Memᴰ x xs × (t ≡ x ++ u) × Memᴰ u ts
-each_in t [] ts m = absurd (Memᴰ.not-nil m)
-each_in t (x ∷ xs) ts m = by (Memᴰ.append_cases (behind x ts) m) (λ k. each_in t xs ts k)
+pub each-in : (t : List ℕ) (xs ts : Texts) → Memᴰ t (each xs ts) → (x : List ℕ) × (u : List ℕ) × Memᴰ x xs × (t ≡ x ++ u) × Memᴰ u ts
+each-in t [] ts m = absurd (Memᴰ.not-nil m)
+each-in t (x ∷ xs) ts m = by (Memᴰ.append_cases (behind x ts) m) (λ k. each-in t xs ts k)
   where
     by : Memᴰ t (behind x ts) ⊎ Memᴰ t (each xs ts) → (Memᴰ t (each xs ts) → (y : List ℕ) × (u : List ℕ) × Memᴰ y xs × (t ≡ y ++ u) × Memᴰ u ts)
         → (y : List ℕ) × (u : List ℕ) × Memᴰ y (x ∷ xs) × (t ≡ y ++ u) × Memᴰ u ts

@@ -12,12 +12,12 @@ use Rattle.ji.specs.Utf8.{encode}
 use Rattle.ji.specs.Reply.{good, bad, pickChecked}
 use Rattle.ji.specs.declared.reply.Refusal.TheVariants.{Parts}
 use Rattle.ji.specs.declared.lomaji.keys.Kind.{Kind}
-use Rattle.ji.proofs.Bools.{and_yes}
+use Rattle.ji.proofs.Bools.{and-yes}
 use Rattle.ji.proofs.unicode.Ascii.{ascii-member}
-use Rattle.ji.proofs.unicode.Bytes.{bytes_one, encode-cons, encode-append}
+use Rattle.ji.proofs.unicode.Bytes.{bytes-one, encode-cons, encode-append}
 use Rattle.ji.proofs.unicode.Checked.{check-passes}
 use Rattle.ji.proofs.unicode.Laws.{members-append}
-use Rattle.khiin_entries.specs.KeySequence.{split, list_of, keyings, partsFit, checkParts, checkEntry}
+use Rattle.khiin_entries.specs.KeySequence.{split, listOf, keyings, partsFit, checkParts, checkEntry}
 use Rattle.robinflint.specs.Arguments.{keyingNumbered}
 use Rattle.grammar.specs.WellFormed.{Texts, WellFormed, text, spaced, entry, Few}
 use Rattle.sweep.proofs.Tests.{Each}
@@ -60,7 +60,7 @@ members-spaced [] h = refl
 members-spaced (w ∷ []) h = h.0
 members-spaced (w ∷ (v ∷ ws)) h =
     members-append unicode16 w (0x20 ∷ spaced (v ∷ ws)) h.0
-    ∙ and_yes (member unicode16 0x20) (members unicode16 (spaced (v ∷ ws))) (ascii-member 0x20 (omega arith))
+    ∙ and-yes (member unicode16 0x20) (members unicode16 (spaced (v ∷ ws))) (ascii-member 0x20 (omega arith))
     ∙ members-spaced (v ∷ ws) h.1
 
 bytes-spaced : (w : List ℕ) (ws : Texts) → Each (λ v. length (encode v) ≤ 60) (w ∷ ws) → length (encode (spaced (w ∷ ws))) + 1 ≤ 61 * suc (length ws)
@@ -69,20 +69,20 @@ bytes-spaced w (v ∷ ws) h =
     let k = h.0 in
     let l = bytes-spaced v ws h.1 in
     let rest = spaced (v ∷ ws) in
-    let e : encode (w ++ (0x20 ∷ rest)) ≡ encode w ++ (0x20 ∷ encode rest) = encode-append w (0x20 ∷ rest) ∙ ap (λ (u : List ℕ). encode w ++ u) (encode-cons 0x20 rest ∙ ap (λ (u : List ℕ). u ++ encode rest) (bytes_one 0x20 (omega arith))) in
+    let e : encode (w ++ (0x20 ∷ rest)) ≡ encode w ++ (0x20 ∷ encode rest) = encode-append w (0x20 ∷ rest) ∙ ap (λ (u : List ℕ). encode w ++ u) (encode-cons 0x20 rest ∙ ap (λ (u : List ℕ). u ++ encode rest) (bytes-one 0x20 (omega arith))) in
     omega (arith, ap length e, length-append (encode w) (0x20 ∷ encode rest))
 
 parts-fit : (ws : Texts) → Each (λ w. length (encode w) ≤ 60) ws → partsFit unicode16 ws ≡ true
 parts-fit [] h = refl
-parts-fit (w ∷ ws) h = let k = h.0 in and_yes _ _ (le-leb (length (encode w)) 256 (omega arith)) ∙ parts-fit ws h.1
+parts-fit (w ∷ ws) h = let k = h.0 in and-yes _ _ (le-leb (length (encode w)) 256 (omega arith)) ∙ parts-fit ws h.1
 
-all_short : (ss : List WellFormed) → Each (λ w. length (encode w) ≤ 60) (map text ss)
-all_short ss = each-text (λ w. length (encode w) ≤ 60) (λ r. (syllable-text r).short) ss
+all-short : (ss : List WellFormed) → Each (λ w. length (encode w) ≤ 60) (map text ss)
+all-short ss = each-text (λ w. length (encode w) ≤ 60) (λ r. (syllable-text r).short) ss
 
 entry-short : (ss : List WellFormed) → Few ss → length (entryBytes ss) ≤ 1024
 unfolding entry
 entry-short [] f = absurd (let n = f.some in let q : ⊥ = omega arith in q)
-entry-short (s ∷ ss) f = let n = f.most in omega (arith, bytes-spaced (text s) (map text ss) (all_short (s ∷ ss)), length-map ss text)
+entry-short (s ∷ ss) f = let n = f.most in omega (arith, bytes-spaced (text s) (map text ss) (all-short (s ∷ ss)), length-map ss text)
 
 module _ (ss : List WellFormed) (f : Few ss) where
   entry-members : members unicode16 (entry ss) ≡ true
@@ -95,12 +95,12 @@ module _ (ss : List WellFormed) (f : Few ss) where
       let most : length (map text ss) ≤ 16 = rw (length-map ss text) f.most in
       ap (checkParts unicode16) (check-passes 1024 (entry ss) entry-members (entry-short ss f))
       ∙ ap (λ (ws : Texts). pickChecked (leb (length ws) 16 && partsFit unicode16 ws) (good (entry ss)) (bad Parts)) (split-entry ss f)
-      ∙ rw (le-leb (length (map text ss)) 16 most, parts-fit (map text ss) (all_short ss))
+      ∙ rw (le-leb (length (map text ss)) 16 most, parts-fit (map text ss) (all-short ss))
 
   -- ── its keyings
-  pub keyings-entry : (kind : Kind) → keyings unicode16 kind (entry ss) ≡ list_of unicode16 kind (map text ss)
+  pub keyings-entry : (kind : Kind) → keyings unicode16 kind (entry ss) ≡ listOf unicode16 kind (map text ss)
   unfolding keyings
-  keyings-entry kind = ap (list_of unicode16 kind) (split-entry ss f)
+  keyings-entry kind = ap (listOf unicode16 kind) (split-entry ss f)
 
   pub entry-answers : (kind position : ℕ) (buffer : List ℕ) → kind ≤ 2 → position < length (list kind ss) → length (keyingAt kind ss position) ≤ length buffer
       → keyingNumbered (entryBytes ss) kind position buffer ≡ given kind (entry ss) position buffer

@@ -21,11 +21,11 @@ use Rattle.ji.specs.declared.lomaji.keys.Form.{Form}
 use Rattle.ji.specs.declared.lomaji.keys.Form.TheVariants.{Plain, Oo}
 use Rattle.ji.specs.declared.lomaji.keys.Kind.{Kind}
 use Rattle.ji.specs.declared.lomaji.keys.Kind.TheVariants.{Detoned, Numeric}
-use Rattle.ji.proofs.Bools.{and_yes}
-use Rattle.ji.proofs.unicode.Ascii.{ascii_more, ascii_nil, ascii-low, ascii-rest}
+use Rattle.ji.proofs.Bools.{and-yes}
+use Rattle.ji.proofs.unicode.Ascii.{ascii-more, ascii-nil, ascii-low, ascii-rest}
 use Rattle.khiin_entries.specs.KeySequence.{pickTexts, holdsDot, alone, forms}
 use Rattle.grammar.specs.WellFormed.{Texts, WellFormed, unmarked, text, dotted}
-use Rattle.sweep.proofs.Tests.{both_left, both_right, passed-true, each, Each}
+use Rattle.sweep.proofs.Tests.{both-left, both-right, passed-true, each, Each}
 use Rattle.sweep.proofs.Unmarked.{isLetterKey}
 use Rattle.sweep.proofs.Syllables.{syllable-text, unmarked-sound}
 use Rattle.roundtrip.specs.Demand3.{isDigit, digits}
@@ -60,22 +60,22 @@ tone-most T8 = omega arith
 tone-most T9 = omega arith
 
 pub tone-digit : (tone : Tone) → isDigit (digitOf tone) ≡ true
-tone-digit tone = let h = tone-most tone in and_yes _ _ (le-leb 0x30 (digitOf tone) (omega arith)) ∙ le-leb (digitOf tone) 0x39 (omega arith)
+tone-digit tone = let h = tone-most tone in and-yes _ _ (le-leb 0x30 (digitOf tone) (omega arith)) ∙ le-leb (digitOf tone) 0x39 (omega arith)
 
 -- ── letter keys
-bare_of : (s : List ℕ) → T (each isLetterKey s) → Bare s
-bare_of [] t = tt
-bare_of (c ∷ s) t = (let key = both_left (isLetterKey c) (each isLetterKey s) t in not-true (isDigit c) (passed-true _ (both_right (leb c 0x7F) (not (isDigit c)) key)), bare_of s (both_right (isLetterKey c) (each isLetterKey s) t))
+bare-of : (s : List ℕ) → T (each isLetterKey s) → Bare s
+bare-of [] t = tt
+bare-of (c ∷ s) t = (let key = both-left (isLetterKey c) (each isLetterKey s) t in not-true (isDigit c) (passed-true _ (both-right (leb c 0x7F) (not (isDigit c)) key)), bare-of s (both-right (isLetterKey c) (each isLetterKey s) t))
 
 ascii-of : (s : List ℕ) → T (each isLetterKey s) → allAscii s ≡ true
-ascii-of [] t = ascii_nil
+ascii-of [] t = ascii-nil
 ascii-of (c ∷ s) t =
-    let key = both_left (isLetterKey c) (each isLetterKey s) t in
-    ascii_more c s (leb-true c 0x7F (passed-true _ (both_left (leb c 0x7F) (not (isDigit c)) key))) (ascii-of s (both_right (isLetterKey c) (each isLetterKey s) t))
+    let key = both-left (isLetterKey c) (each isLetterKey s) t in
+    ascii-more c s (leb-true c 0x7F (passed-true _ (both-left (leb c 0x7F) (not (isDigit c)) key))) (ascii-of s (both-right (isLetterKey c) (each isLetterKey s) t))
 
-pub ascii_append : (s u : List ℕ) → allAscii s ≡ true → allAscii u ≡ true → allAscii (s ++ u) ≡ true
-ascii_append [] u h k = k
-ascii_append (c ∷ s) u h k = ascii_more c (s ++ u) (ascii-low c s h) (ascii_append s u (ascii-rest c s h) k)
+pub ascii-append : (s u : List ℕ) → allAscii s ≡ true → allAscii u ≡ true → allAscii (s ++ u) ≡ true
+ascii-append [] u h k = k
+ascii-append (c ∷ s) u h k = ascii-more c (s ++ u) (ascii-low c s h) (ascii-append s u (ascii-rest c s h) k)
 
 -- ── one syllable
 module _ (s : WellFormed) where
@@ -87,7 +87,7 @@ module _ (s : WellFormed) where
   numbered form = bare form ++ (digitOf s.tone ∷ [])
 
   pub bare-keys : (form : Form) → Bare (bare form)
-  bare-keys form = bare_of (bare form) ((unmarked-sound s).keys form)
+  bare-keys form = bare-of (bare form) ((unmarked-sound s).keys form)
 
   pub bare-ascii : (form : Form) → allAscii (bare form) ≡ true
   bare-ascii form = ascii-of (bare form) ((unmarked-sound s).keys form)
@@ -95,7 +95,7 @@ module _ (s : WellFormed) where
   pub numbered-ascii : (form : Form) → allAscii (numbered form) ≡ true
   numbered-ascii form =
       let h = tone-most s.tone in
-      ascii_append (bare form) (digitOf s.tone ∷ []) (bare-ascii form) (ascii_more (digitOf s.tone) [] (omega arith) ascii_nil)
+      ascii-append (bare form) (digitOf s.tone ∷ []) (bare-ascii form) (ascii-more (digitOf s.tone) [] (omega arith) ascii-nil)
 
   pub numbered-short : (form : Form) → length (numbered form) ≤ 256
   numbered-short form = let h = (unmarked-sound s).short-keys form in omega (arith, length-append (bare form) (digitOf s.tone ∷ []))
@@ -135,15 +135,15 @@ module _ (s : WellFormed) where
   unfolding dotted
   forms-differ = rw (keys-detoned Plain, keys-detoned Oo) ((unmarked-sound s).differ ∙ ap not (sym (syllable-text s).dot))
 
-  either_way : (b : Bool) (x y : List ℕ) → pickTexts (not b) (x ∷ []) (x ∷ y ∷ []) ≡ pickTexts b (x ∷ y ∷ []) (x ∷ [])
-  either_way true x y = refl
-  either_way false x y = refl
+  either-way : (b : Bool) (x y : List ℕ) → pickTexts (not b) (x ∷ []) (x ∷ y ∷ []) ≡ pickTexts b (x ∷ y ∷ []) (x ∷ [])
+  either-way true x y = refl
+  either-way false x y = refl
 
   pub alone-forms : (kind : Kind) → alone unicode16 kind (text s) ≡ forms unicode16 kind (text s)
   unfolding alone
   alone-forms kind =
       ap (λ (b : Bool). pickTexts b (keys unicode16 Plain kind (text s) ∷ []) (keys unicode16 Plain kind (text s) ∷ keys unicode16 Oo kind (text s) ∷ [])) forms-differ
-      ∙ either_way (dotted s) (keys unicode16 Plain kind (text s)) (keys unicode16 Oo kind (text s))
+      ∙ either-way (dotted s) (keys unicode16 Plain kind (text s)) (keys unicode16 Oo kind (text s))
       ∙ sym (forms-are kind)
 
   -- what holds of both forms holds of each
@@ -162,8 +162,8 @@ module _ (s : WellFormed) where
       }
 
   -- a piece is a form with its digit
-  pub piece_of : (p : List ℕ) → Memᴰ p (formsOf numbered) → (form : Form) × (p ≡ numbered form)
-  piece_of p m = by (dotted s) m
+  pub piece-of : (p : List ℕ) → Memᴰ p (formsOf numbered) → (form : Form) × (p ≡ numbered form)
+  piece-of p m = by (dotted s) m
     where
       second : (p ≡ numbered Plain) ⊎ Memᴰ p (numbered Oo ∷ []) → (form : Form) × (p ≡ numbered form)
       second (inl e) = (Plain, e)

@@ -8,11 +8,11 @@ use Prim.Native.Nat.{ℕ}
 use lib.Dec.{T}
 use lib.ListN.{length, drop, get_or}
 use lib.Seq.{drop-append_seam}
-use Rattle.ucd.proofs.Tests.{both_left, both_right}
+use Rattle.ucd.proofs.Tests.{both-left, both-right}
 use Rattle.ji.specs.Unicode.{unicode16, same}
 use Rattle.ji.specs.Text.{point, within, lower, begins, last}
 use Rattle.ji.specs.Lomaji.Strip.{Stripped, strip}
-use Rattle.ji.proofs.Bools.{or_yes}
+use Rattle.ji.proofs.Bools.{or-yes}
 use Rattle.ji.proofs.text.Laws.{begins-own}
 use Rattle.ji.proofs.unicode.Bytes.{same-equal, same-itself}
 use Rattle.grammar.specs.WellFormed.{Texts, onsets, rimes, cased, WellFormed, unmarked, text}
@@ -51,12 +51,12 @@ unfolding same lower begins last rimes isDifferent areDifferent
 every-onset = tt
 
 -- ── what it says
-is_one : (xs : Texts) (s : List ℕ) → Memᴰ s xs → isOneOf xs s ≡ true
-is_one [] s m = absurd (Memᴰ.not-nil m)
-is_one (x ∷ xs) s m = by (Memᴰ.cases_cons m) (λ k. is_one xs s k)
+is-one : (xs : Texts) (s : List ℕ) → Memᴰ s xs → isOneOf xs s ≡ true
+is-one [] s m = absurd (Memᴰ.not-nil m)
+is-one (x ∷ xs) s m = by (Memᴰ.cases_cons m) (λ k. is-one xs s k)
   where
     by : (s ≡ x) ⊎ Memᴰ s xs → (Memᴰ s xs → isOneOf xs s ≡ true) → (same x s || isOneOf xs s) ≡ true
-    by (inl e) later = or_yes (same x s) (isOneOf xs s) (ap (same x) e ∙ same-itself x)
+    by (inl e) later = or-yes (same x s) (isOneOf xs s) (ap (same x) e ∙ same-itself x)
     by (inr k) later = ap (λ (b : Bool). same x s || b) (later k) ∙ or-true (same x s)
       where
         or-true : (b : Bool) → (b || true) ≡ true
@@ -64,7 +64,7 @@ is_one (x ∷ xs) s m = by (Memᴰ.cases_cons m) (λ k. is_one xs s k)
         or-true false = refl
 
 reads-own : (onset rime : List ℕ) → Memᴰ rime rimes → reads (onset ++ rime) onset ≡ true
-reads-own onset rime m = rw (begins-own onset rime, drop-append_seam onset rime) (is_one rimes rime m)
+reads-own onset rime m = rw (begins-own onset rime, drop-append_seam onset rime) (is-one rimes rime m)
 
 module _ (onset rime : List ℕ) (o : Memᴰ onset onsets) (r : Memᴰ rime rimes) where
   passes : T (isDifferent onset rime)
@@ -74,20 +74,20 @@ module _ (onset rime : List ℕ) (o : Memᴰ onset onsets) (r : Memᴰ rime rime
   one-onset : (other rest : List ℕ) → Memᴰ other onsets → Memᴰ rest rimes → onset ++ rime ≡ other ++ rest → other ≡ onset
   unfolding isDifferent
   one-onset other rest p q e =
-      let once : T (readsOnce onset rime other) = each-passes (readsOnce onset rime) onsets (both_left (each (readsOnce onset rime) onsets) _ passes) other p in
+      let once : T (readsOnce onset rime other) = each-passes (readsOnce onset rime) onsets (both-left (each (readsOnce onset rime) onsets) _ passes) other p in
       let hit : reads (onset ++ rime) other ≡ true = ap (λ (s : List ℕ). reads s other) e ∙ reads-own other rest q in
       same-equal other onset (rw hit at once)
 
   module _ (capital : Bool) where
     shown : T (showsCase (onset ++ rime) capital)
     unfolding isDifferent
-    shown = each-passes (showsCase (onset ++ rime)) (false ∷ true ∷ []) (both_right (each (readsOnce onset rime) onsets) _ passes) capital (case-in capital)
+    shown = each-passes (showsCase (onset ++ rime)) (false ∷ true ∷ []) (both-right (each (readsOnce onset rime) onsets) _ passes) capital (case-in capital)
 
     lower-again : map lower (cased capital (onset ++ rime)) ≡ onset ++ rime
-    lower-again = same-equal _ _ (both_left (same (map lower (cased capital (onset ++ rime))) (onset ++ rime)) _ shown)
+    lower-again = same-equal _ _ (both-left (same (map lower (cased capital (onset ++ rime))) (onset ++ rime)) _ shown)
 
     case-again : within (point "A") (point "Z") (get_or (cased capital (onset ++ rime)) 0 0) ≡ capital
-    case-again = beq-equal _ _ (both_right (same (map lower (cased capital (onset ++ rime))) (onset ++ rime)) _ shown)
+    case-again = beq-equal _ _ (both-right (same (map lower (cased capital (onset ++ rime))) (onset ++ rime)) _ shown)
 
 pub record SameParts (s r : WellFormed) : Type 0 where
   pub onset : s.onset ≡ r.onset
@@ -95,9 +95,9 @@ pub record SameParts (s r : WellFormed) : Type 0 where
   pub capital : s.capital ≡ r.capital
   pub tone : s.tone ≡ r.tone
 
-pub same_parts : (s r : WellFormed) → text s ≡ text r → SameParts s r
+pub same-parts : (s r : WellFormed) → text s ≡ text r → SameParts s r
 unfolding unmarked
-same_parts s r e =
+same-parts s r e =
     let stripped : strip unicode16 (text s) ≡ strip unicode16 (text r) = ap (strip unicode16) e in
     let rest : unmarked s ≡ unmarked r = rw ((syllable-text s).stripping, (syllable-text r).stripping) at (ap (λ (x : Stripped). x.rest) stripped) in
     let letters : s.onset ++ s.rime ≡ r.onset ++ r.rime = sym (lower-again s.onset s.rime s.onset-in s.rime-in s.capital) ∙ ap (map lower) rest ∙ lower-again r.onset r.rime r.onset-in r.rime-in r.capital in

@@ -15,7 +15,7 @@ use Rattle.ji.specs.Text.{begins, replaceAll}
 use Rattle.ji.specs.Nfd.{Ordered, order, nfd}
 use Rattle.ji.specs.Nfc.{reversed, absorb, composeFrom, nfc}
 use Rattle.ji.specs.Nfc.{compose as composition}
-use Rattle.ji.proofs.Bools.{and_no, or_no}
+use Rattle.ji.proofs.Bools.{and-no, or-no}
 use Rattle.ji.proofs.text.Laws.{replace-nil, replace-miss}
 use Rattle.ji.proofs.Order.{ordered-fixed}
 use Rattle.ji.proofs.Decomposition.{full-atoms}
@@ -40,8 +40,8 @@ starter-no-dot : (c : ℕ) → combiningClass unicode16 c ≡ 0 → c ≡ 0x0358
 starter-no-dot c k z = omega (arith, dot-class, ap (combiningClass unicode16) z)
 
 module _ (a b p : ℕ) (e : composite unicode16 a b ≡ some p) where
-  made_other : Other p
-  made_other = (
+  made-other : Other p
+  made-other = (
     (λ z. omega (arith, below-class, unicode16-facts.starter a b p e, ap (combiningClass unicode16) z)),
     (λ z. omega (arith, ap length (sym (unicode16-facts.decomposes a b p e) ∙ ap (decomposition unicode16) z ∙ low-atom 0x20 (omega arith)))),
   )
@@ -56,7 +56,7 @@ module _ (a b p : ℕ) (e : composite unicode16 a b ≡ some p) where
 -- ── what it keeps
 listed-first : (c d k : ℕ) (s : List ℕ) → (c ≡ k → ⊥) → (d ≡ k → ⊥) → listed (c ∷ s) k ≡ listed (d ∷ s) k
 unfolding listed
-listed-first c d k s n m = or_no (eqb c k) (listed s k) (ne_eqb c k n) ∙ sym (or_no (eqb d k) (listed s k) (ne_eqb d k m))
+listed-first c d k s n m = or-no (eqb c k) (listed s k) (ne_eqb c k n) ∙ sym (or-no (eqb d k) (listed s k) (ne_eqb d k m))
 
 listed-behind : (b k : ℕ) (r q : List ℕ) → listed r k ≡ listed q k → listed (b ∷ r) k ≡ listed (b ∷ q) k
 unfolding listed
@@ -72,7 +72,7 @@ pub record Kept (c : ℕ) (r q : List ℕ) : Type 0 where
 absorbs-keeps : (c : ℕ) {r q : List ℕ} → Absorbs unicode16 c r q → Kept c r q
 absorbs-keeps c (joins {l} {p} {r} z e) =
     record {
-      other = λ h. (made_other l c p e, h.1);
+      other = λ h. (made-other l c p e, h.1);
       dot = listed-first l p 0x0358 r (starter-no-dot l z) (made-no-dot l c p e);
       size = refl;
       no-dot = no-dot-joins l c p e;
@@ -118,7 +118,7 @@ module _ (dot : Bool) (n : ℕ) where
       record {
         done = k.other h.done;
         left = h.left.1;
-        dotted = ap₂ (λ (a b : Bool). a || b) (sym k.dot) (sym (or_no (eqb c 0x0358) (listed s 0x0358) (ne_eqb c 0x0358 k.no-dot))) ∙ h.dotted;
+        dotted = ap₂ (λ (a b : Bool). a || b) (sym k.dot) (sym (or-no (eqb c 0x0358) (listed s 0x0358) (ne_eqb c 0x0358 k.no-dot))) ∙ h.dotted;
         size = omega (arith, k.size);
       }
 
@@ -131,11 +131,11 @@ listed-append (c ∷ s) u k = ap (λ (b : Bool). eqb c k || b) (listed-append s 
     assoc true y z = refl
     assoc false y z = refl
 
-or_comm : (x y : Bool) → (x || y) ≡ (y || x)
-or_comm true true = refl
-or_comm true false = refl
-or_comm false true = refl
-or_comm false false = refl
+or-comm : (x y : Bool) → (x || y) ≡ (y || x)
+or-comm true true = refl
+or-comm true false = refl
+or-comm false true = refl
+or-comm false false = refl
 
 or-none : (x : Bool) → (x || false) ≡ x
 or-none true = refl
@@ -147,7 +147,7 @@ listed-reversed [] k = refl
 listed-reversed (c ∷ s) k =
     listed-append (reversed s) (c ∷ []) k
     ∙ ap₂ (λ (a b : Bool). a || b) (listed-reversed s k) (or-none (eqb c k))
-    ∙ or_comm (listed s k) (eqb c k)
+    ∙ or-comm (listed s k) (eqb c k)
 
 length-reversed : (s : List ℕ) → length (reversed s) ≡ length s
 unfolding reversed
@@ -161,7 +161,7 @@ swapped s = replaceAll (0x0324 ∷ 0x030D ∷ []) (0x030D ∷ 0x0324 ∷ []) s
 swap-none : (s : List ℕ) → All Other s → swapped s ≡ s
 unfolding begins
 swap-none [] h = replace-nil _ _
-swap-none (x ∷ s) h = replace-miss _ _ x s (and_no _ _ (ne_eqb x 0x0324 h.0.0)) ∙ ap (λ (l : List ℕ). x ∷ l) (swap-none s h.1)
+swap-none (x ∷ s) h = replace-miss _ _ x s (and-no _ _ (ne_eqb x 0x0324 h.0.0)) ∙ ap (λ (l : List ℕ). x ∷ l) (swap-none s h.1)
 
 -- ── the law
 pub record Encodes (s w : List ℕ) : Type 0 where

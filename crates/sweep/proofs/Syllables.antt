@@ -15,8 +15,8 @@ use lib.ListN.{length, take, drop, get_or, length-append, take-append-drop}
 use lib.Seq.{take-suc}
 use Rattle.ucd.specs.Table.{member, inRanges}
 use Rattle.ucd.specs.Unicode16.{ranges16}
-use Rattle.ucd.proofs.Tests.{both_left, both_right, passes-true}
-use Rattle.ucd.proofs.Unicode16.{member_below, low-starter}
+use Rattle.ucd.proofs.Tests.{both-left, both-right, passes-true}
+use Rattle.ucd.proofs.Unicode16.{member-below, low-starter}
 use Rattle.ji.specs.Unicode.{All, unicode16, mappings16, classes16, same, listed, mappingIn, classIn, decomposition, combiningClass, members}
 use Rattle.ji.specs.Utf8.{encode}
 use Rattle.ji.specs.Nfd.{Ordered}
@@ -24,12 +24,12 @@ use Rattle.ji.specs.Tone.{pickTone, toneNumber}
 use Rattle.ji.specs.Lomaji.Strip.{toneMarks, markTone, isToneMark, withoutMarks, droppedMarks, unmarkedTone, stripped, strip}
 use Rattle.ji.specs.declared.tone.Tone.{Tone}
 use Rattle.ji.specs.declared.tone.Tone.TheVariants.{T1, T2, T3, T4, T5, T6, T7, T8, T9}
-use Rattle.ji.proofs.Bools.{either, and_yes, or_no}
+use Rattle.ji.proofs.Bools.{either, and-yes, or-no}
 use Rattle.ji.proofs.Closure.{nfc-inside-16}
-use Rattle.ji.proofs.Composition.{all_append}
+use Rattle.ji.proofs.Composition.{all-append}
 use Rattle.ji.proofs.unicode.Bytes.{same-equal, encode-most}
 use Rattle.ji.proofs.lomaji.strip.Answers.{same-tone}
-use Rattle.ji.proofs.lomaji.strip.Laws.{last_none, last_more}
+use Rattle.ji.proofs.lomaji.strip.Laws.{last-none, last-more}
 use Rattle.khiin.specs.Syllable.{mark_of, encoded}
 use Rattle.grammar.specs.WellFormed.{WellFormed, stopped, unmarked, withMark, text}
 use Rattle.sweep.proofs.Tests.{all, passed, each, each-passes}
@@ -77,20 +77,20 @@ class_of k t =
 letter-of : (c : ℕ) → T (isLetter c) → Letter c
 unfolding isLetter
 letter-of c t =
-    let rest : T (not (isToneMark c) && (eqb (combiningClass unicode16 c) 0 || eqb (combiningClass unicode16 c) 232)) = both_right (all (pointTests c)) _ t in
-    let class = class_of (combiningClass unicode16 c) (both_right (not (isToneMark c)) _ rest) in
-    record { plain = point-of c (both_left (all (pointTests c)) _ t); no-mark = not-true _ (passes-true _ (both_left (not (isToneMark c)) _ rest)); most = class.0; least = class.1 }
+    let rest : T (not (isToneMark c) && (eqb (combiningClass unicode16 c) 0 || eqb (combiningClass unicode16 c) 232)) = both-right (all (pointTests c)) _ t in
+    let class = class_of (combiningClass unicode16 c) (both-right (not (isToneMark c)) _ rest) in
+    record { plain = point-of c (both-left (all (pointTests c)) _ t); no-mark = not-true _ (passes-true _ (both-left (not (isToneMark c)) _ rest)); most = class.0; least = class.1 }
 
-listed_in : (xs : List ℕ) (c : ℕ) → T (listed xs c) → Memᴰ c xs
+listed-in : (xs : List ℕ) (c : ℕ) → T (listed xs c) → Memᴰ c xs
 unfolding listed
-listed_in [] c t = absurd t
-listed_in (x ∷ xs) c t =
-    either (eqb x c) (λ y. Memᴰ.head (sym (eqb-true x c y))) (λ n. Memᴰ.tail (listed_in xs c (rw n at t)))
+listed-in [] c t = absurd t
+listed-in (x ∷ xs) c t =
+    either (eqb x c) (λ y. Memᴰ.head (sym (eqb-true x c y))) (λ n. Memᴰ.tail (listed-in xs c (rw n at t)))
 
 all-letters : (s : List ℕ) → T (each (listed letters) s) → All Letter s
 all-letters [] t = tt
 all-letters (c ∷ s) t =
-    (letter-of c (each-passes isLetter letters letters-pass c (listed_in letters c (both_left (listed letters c) _ t))), all-letters s (both_right (listed letters c) _ t))
+    (letter-of c (each-passes isLetter letters letters-pass c (listed-in letters c (both-left (listed letters c) _ t))), all-letters s (both-right (listed letters c) _ t))
 
 -- a mark of a tone
 pub record Mark (tone : Tone) (m : ℕ) : Type 0 where
@@ -168,14 +168,14 @@ dropped-none s h = ap droppedMarks (sym (append-nil s)) ∙ dropped-letters [] s
 
 strip-letters : (s : List ℕ) → All Letter s → stripped s ≡ record { rest = s; tone = unmarkedTone (encode s) }
 unfolding stripped
-strip-letters s h = rw (without-itself s h, dropped-none s h, last_none)
+strip-letters s h = rw (without-itself s h, dropped-none s h, last-none)
 
 strip-marked : (front back : List ℕ) {tone : Tone} {m : ℕ} → All Letter front → All Letter back → Mark tone m → stripped (front ++ (m ∷ back)) ≡ record { rest = front ++ back; tone = tone }
 unfolding stripped withoutMarks droppedMarks
 strip-marked front back {tone} {m} f g k =
     let rest : withoutMarks (front ++ (m ∷ back)) ≡ front ++ back = without-letters (m ∷ back) front f ∙ ap (λ (l : List ℕ). front ++ l) (rw k.marks (without-itself back g)) in
     let dropped : droppedMarks (front ++ (m ∷ back)) ≡ m ∷ [] = dropped-letters (m ∷ back) front f ∙ rw k.marks (ap (λ (l : List ℕ). m ∷ l) (dropped-none back g)) in
-    rw (rest, dropped, last_more, k.spoken, last_none)
+    rw (rest, dropped, last-more, k.spoken, last-none)
 
 -- ── the text of a syllable
 pub record SyllableText (s : WellFormed) : Type 0 where
@@ -193,43 +193,43 @@ record Written (s : List ℕ) (tone : Tone) (u w : List ℕ) : Type 0 where
   dot : listed u 0x0358 ≡ listed s 0x0358
   size : length u ≤ 17
 
-all_map : {P Q : ℕ → Type 0} → ((c : ℕ) → P c → Q c) → (s : List ℕ) → All P s → All Q s
-all_map f [] h = tt
-all_map f (c ∷ s) h = (f c h.0, all_map f s h.1)
+all-map : {P Q : ℕ → Type 0} → ((c : ℕ) → P c → Q c) → (s : List ℕ) → All P s → All Q s
+all-map f [] h = tt
+all-map f (c ∷ s) h = (f c h.0, all-map f s h.1)
 
 all-members : (s : List ℕ) → All (λ c. T (member unicode16 c)) s → members unicode16 s ≡ true
 unfolding members
 all-members [] h = refl
-all-members (c ∷ s) h = and_yes (member unicode16 c) (members unicode16 s) (passes-true _ h.0) ∙ all-members s h.1
+all-members (c ∷ s) h = and-yes (member unicode16 c) (members unicode16 s) (passes-true _ h.0) ∙ all-members s h.1
 
 small-points : (s : List ℕ) → All (λ c. T (member unicode16 c)) s → (i : ℕ) → get_or s i 0 ≤ 0xFFFF
 small-points [] h i = omega arith
-small-points (c ∷ s) h zero = omega (arith, member_below c h.0)
+small-points (c ∷ s) h zero = omega (arith, member-below c h.0)
 small-points (c ∷ s) h (suc i) = small-points s h.1 i
 
 module _ (s : WellFormed) where
   from-written : {u : List ℕ} → Written (unmarked s) s.tone u (text s) → SyllableText s
   from-written {u} k =
       let e = k.encoding in
-      let inside : All (λ c. T (member unicode16 c)) (text s) = rw e.nfc-is (nfc-inside-16 u (all_map (λ c p. p.inside) u k.points)) in
+      let inside : All (λ c. T (member unicode16 c)) (text s) = rw e.nfc-is (nfc-inside-16 u (all-map (λ c p. p.inside) u k.points)) in
       record {
         stripping = ap stripped e.nfd-is ∙ k.stripping;
         inside = all-members (text s) inside;
-        no-space = all_map (λ c p. p.1) (text s) e.other;
+        no-space = all-map (λ c p. p.1) (text s) e.other;
         dot = e.dot ∙ k.dot;
         short = omega (arith, encode-most (text s) (small-points (text s) inside), e.size, k.size);
       }
 
 -- ── without a mark, and with one
-all_take : (n : ℕ) (s : List ℕ) → All Letter s → All Letter (take n s)
-all_take zero s h = tt
-all_take (suc n) [] h = tt
-all_take (suc n) (c ∷ s) h = (h.0, all_take n s h.1)
+all-take : (n : ℕ) (s : List ℕ) → All Letter s → All Letter (take n s)
+all-take zero s h = tt
+all-take (suc n) [] h = tt
+all-take (suc n) (c ∷ s) h = (h.0, all-take n s h.1)
 
-all_drop : (n : ℕ) (s : List ℕ) → All Letter s → All Letter (drop n s)
-all_drop zero s h = h
-all_drop (suc n) [] h = tt
-all_drop (suc n) (c ∷ s) h = all_drop n s h.1
+all-drop : (n : ℕ) (s : List ℕ) → All Letter s → All Letter (drop n s)
+all-drop zero s h = h
+all-drop (suc n) [] h = tt
+all-drop (suc n) (c ∷ s) h = all-drop n s h.1
 
 first-class : combiningClass unicode16 0 ≤ 232
 first-class = omega (arith, low-starter 0 (omega arith))
@@ -268,38 +268,38 @@ module _ (s : WellFormed) where
       let none : mark_of s.tone ≡ [] = ap mark_of e ∙ no-mark (stopped s.rime) in
       let is : text s ≡ encoded unicode16 base = text-is ∙ ap (λ (l : List ℕ). encoded unicode16 (front ++ (l ++ back))) none ∙ ap (encoded unicode16) (take-append-drop (place + 1) base) in
       record {
-        points = all_map (λ c l. l.plain) base base-letters;
+        points = all-map (λ c l. l.plain) base base-letters;
         stripping = strip-letters base base-letters ∙ ap (λ (t : Tone). record { rest = base; tone = t }) (unmarked-sound.tone ∙ sym e);
-        encoding = rw is (encodes base (all_map (λ c l. l.plain.atom) base base-letters) (ordered-letters 0 base first-class base-letters).1 (all_map (λ c l. l.plain.other) base base-letters));
+        encoding = rw is (encodes base (all-map (λ c l. l.plain.atom) base base-letters) (ordered-letters 0 base first-class base-letters).1 (all-map (λ c l. l.plain.other) base base-letters));
         dot = refl;
         size = let k = unmarked-sound.short in omega arith;
       }
 
   module _ (m : ℕ) (k : Mark s.tone m) where
     front-letters : All Letter front
-    front-letters = all_take (place + 1) base base-letters
+    front-letters = all-take (place + 1) base base-letters
 
     back-letters : All Letter back
-    back-letters = all_drop (place + 1) base base-letters
+    back-letters = all-drop (place + 1) base base-letters
 
-    front_ends : front ≡ take place base ++ (get_or base place 0 ∷ [])
-    front_ends = ap (λ (n : ℕ). take n base) (add-one place) ∙ take-suc base place 0 unmarked-sound.inside
+    front-ends : front ≡ take place base ++ (get_or base place 0 ∷ [])
+    front-ends = ap (λ (n : ℕ). take n base) (add-one place) ∙ take-suc base place 0 unmarked-sound.inside
 
     marked-points : All Point (front ++ (m ∷ back))
-    marked-points = all_append Point front (m ∷ back) (all_map (λ c l. l.plain) front front-letters) (k.plain, all_map (λ c l. l.plain) back back-letters)
+    marked-points = all-append Point front (m ∷ back) (all-map (λ c l. l.plain) front front-letters) (k.plain, all-map (λ c l. l.plain) back back-letters)
 
     marked-ordered : Ordered unicode16 (front ++ (m ∷ back))
     marked-ordered =
         let low : get_or base place 0 < 0x80 = unmarked-sound.low in
-        rw (front_ends, append_assoc (take place base) (get_or base place 0 ∷ []) (m ∷ back))
+        rw (front-ends, append_assoc (take place base) (get_or base place 0 ∷ []) (m ∷ back))
         (ordered-marked (get_or base place 0) m back (low-starter (get_or base place 0) (omega arith)) k.class back-letters 0 (take place base) first-class
-        (all_take place base base-letters)).1
+        (all-take place base base-letters)).1
 
     marked-dot : listed (front ++ (m ∷ back)) 0x0358 ≡ listed base 0x0358
     unfolding listed
     marked-dot =
         listed-append front (m ∷ back) 0x0358
-        ∙ ap (λ (b : Bool). listed front 0x0358 || b) (or_no (eqb m 0x0358) (listed back 0x0358) (ne_eqb m 0x0358 k.no-dot))
+        ∙ ap (λ (b : Bool). listed front 0x0358 || b) (or-no (eqb m 0x0358) (listed back 0x0358) (ne_eqb m 0x0358 k.no-dot))
         ∙ sym (listed-append front back 0x0358)
         ∙ ap (λ (l : List ℕ). listed l 0x0358) (take-append-drop (place + 1) base)
 
@@ -314,7 +314,7 @@ module _ (s : WellFormed) where
           points = marked-points;
           stripping = strip-marked front back front-letters back-letters k ∙ ap (λ (l : List ℕ). record { rest = l; tone = s.tone }) (take-append-drop (place + 1) base);
           encoding = rw (text-is, k.is)
-              (encodes (front ++ (m ∷ back)) (all_map (λ c p. p.atom) (front ++ (m ∷ back)) marked-points) marked-ordered (all_map (λ c p. p.other) (front ++ (m ∷ back)) marked-points));
+              (encodes (front ++ (m ∷ back)) (all-map (λ c p. p.atom) (front ++ (m ∷ back)) marked-points) marked-ordered (all-map (λ c p. p.other) (front ++ (m ∷ back)) marked-points));
           dot = marked-dot;
           size = marked-size;
         }

@@ -6,10 +6,10 @@ use mathlib.Core.Option.{Option, none, some}
 use Prim.Native.Nat.{ℕ, ◌≤◌, ◌<◌}
 use lib.Dec.{T, leb, ltb, eqb, leb→le, ltb→lt, eqb→eq}
 use lib.ListN.{length, take, drop, get_or}
-use Rattle.ucd.proofs.Tests.{both_left, both_right}
+use Rattle.ucd.proofs.Tests.{both-left, both-right}
 use Rattle.ji.specs.Unicode.{same, listed}
 use Rattle.ji.specs.Text.{points, point, within, lower, begins, last, replaceFrom, replaceAll}
-use Rattle.ji.specs.Utf8.{bytes_of, encode}
+use Rattle.ji.specs.Utf8.{bytesOf, encode}
 use Rattle.ji.specs.Tone.{pickTone, toneNumber}
 use Rattle.ji.specs.Lomaji.Strip.{endsIn, unmarkedTone}
 use Rattle.ji.specs.Lomaji.Khin.{withoutKhin, khinIn}
@@ -24,7 +24,7 @@ use Rattle.ji.proofs.lomaji.strip.Answers.{same-tone}
 use Rattle.khiin_records.specs.Syllable.{belowRules, signRules}
 use Rattle.khiin.specs.Syllable.{isNasalEnd, endsNasal, nasalised, moved, spelled}
 use Rattle.grammar.specs.WellFormed.{onsets, rimes, cased, stopped}
-use Rattle.sweep.proofs.Tests.{beq-equal, all, Passed, passed, each, each_append, each-passes, case-in}
+use Rattle.sweep.proofs.Tests.{beq-equal, all, Passed, passed, each, each-append, each-passes, case-in}
 
 -- ── the tests
 -- the letters and signs of the onsets and rimes
@@ -75,7 +75,7 @@ isSoundBehind onset = each (λ (rime : List ℕ). each (λ (capital : Bool). isS
 
 -- ── computed, six onsets at a time
 areSoundBehind : List (List ℕ) → Bool
-unfolding same listed begins lower last replaceFrom replaceAll bytes_of encode endsIn unmarkedTone firstPlace searched toneLetter isNasalEnd endsNasal nasalised moved spelled rimes stopped isSound isSoundBehind
+unfolding same listed begins lower last replaceFrom replaceAll bytesOf encode endsIn unmarkedTone firstPlace searched toneLetter isNasalEnd endsNasal nasalised moved spelled rimes stopped isSound isSoundBehind
 areSoundBehind os = each isSoundBehind os
 
 are-each : (os : List (List ℕ)) → T (areSoundBehind os) → T (each isSoundBehind os)
@@ -96,8 +96,8 @@ third-six = tt
 
 every-onset : T (each isSoundBehind onsets)
 every-onset =
-    each_append isSoundBehind (take 6 onsets) (drop 6 onsets) (are-each (take 6 onsets) first-six)
-    (each_append isSoundBehind (take 6 (drop 6 onsets)) (drop 12 onsets) (are-each (take 6 (drop 6 onsets)) second-six) (are-each (drop 12 onsets) third-six))
+    each-append isSoundBehind (take 6 onsets) (drop 6 onsets) (are-each (take 6 onsets) first-six)
+    (each-append isSoundBehind (take 6 (drop 6 onsets)) (drop 12 onsets) (are-each (take 6 (drop 6 onsets)) second-six) (are-each (drop 12 onsets) third-six))
 
 -- ── what they say
 pub record Sound (rime s : List ℕ) : Type 0 where
@@ -116,34 +116,34 @@ pub record Sound (rime s : List ℕ) : Type 0 where
   pub keys : (form : Form) → T (each isLetterKey (respell (rulesOf form) s))
   pub short-keys : (form : Form) → length (respell (rulesOf form) s) ≤ 16
 
-no_test : (b : Bool) → T (not b) → b ≡ false
-no_test true t = absurd t
-no_test false t = refl
+no-test : (b : Bool) → T (not b) → b ≡ false
+no-test true t = absurd t
+no-test false t = refl
 
 low-place : (s : List ℕ) (o : Option ℕ) → T (lowAt s o) → (k : ℕ) × (o ≡ some k) × (k < length s) × (get_or s k 0 < 0x80)
 low-place s none t = absurd t
 low-place s (some k) t =
     let inside : Bool = ltb k (length s) in
     let low : Bool = ltb (get_or s k 0) 0x80 in
-    (k, refl, ltb→lt k (length s) (both_left inside low t), ltb→lt (get_or s k 0) 0x80 (both_right inside low t))
+    (k, refl, ltb→lt k (length s) (both-left inside low t), ltb→lt (get_or s k 0) 0x80 (both-right inside low t))
 
 module _ (rime s : List ℕ) (h : T (isSound rime s)) where
   text-passed : Passed (textTests rime s)
   unfolding isSound
-  text-passed = passed (textTests rime s) (both_left (all (textTests rime s)) _ h)
+  text-passed = passed (textTests rime s) (both-left (all (textTests rime s)) _ h)
 
   form-passed : (form : Form) → Passed (formTests s form (respell (rulesOf form) s))
   unfolding isSound
-  form-passed Plain = passed (formTests s Plain (respell plainRules s)) (both_left (all (formTests s Plain (respell plainRules s))) _ (both_right (all (textTests rime s)) _ h))
-  form-passed Oo = passed (formTests s Oo (respell ooRules s)) (both_right (all (formTests s Plain (respell plainRules s))) _ (both_right (all (textTests rime s)) _ h))
+  form-passed Plain = passed (formTests s Plain (respell plainRules s)) (both-left (all (formTests s Plain (respell plainRules s))) _ (both-right (all (textTests rime s)) _ h))
+  form-passed Oo = passed (formTests s Oo (respell ooRules s)) (both-right (all (formTests s Plain (respell plainRules s))) _ (both-right (all (textTests rime s)) _ h))
 
   sound-of : Sound rime s
   unfolding khinIn withoutKhin
   sound-of =
       let (letter, (no-hyphens, (no-dot, (lettered, (short, (tone, (differ, end))))))) = text-passed in
       let place = low-place s (toneLetter s) letter in
-      let hyphens : begins (points "--") s ≡ false = no_test _ no-hyphens in
-      let dot : begins (points "·") s ≡ false = no_test _ no-dot in
+      let hyphens : begins (points "--") s ≡ false = no-test _ no-hyphens in
+      let dot : begins (points "·") s ≡ false = no-test _ no-dot in
       record {
         place = place.0;
         letter = place.1;

@@ -14,16 +14,16 @@ use Rattle.ucd.specs.declared.Mapping.{Mapping}
 use Rattle.ucd.specs.declared.Mapping.TheVariants.{Itself, One, Two}
 
 -- the decomposition of c that an answer says
-abbrev pub text_of : ℕ → Mapping → List ℕ
-text_of c Itself = c ∷ []
-text_of c (One a) = a ∷ []
-text_of c (Two a b) = a ∷ b ∷ []
+abbrev pub textOf : ℕ → Mapping → List ℕ
+textOf c Itself = c ∷ []
+textOf c (One a) = a ∷ []
+textOf c (Two a b) = a ∷ b ∷ []
 
-pub text-told : (t : Table) (c : ℕ) (m : Mapping) → said m ≡ mapping t c → text_of c m ≡ decomposition t c
+pub text-told : (t : Table) (c : ℕ) (m : Mapping) → said m ≡ mapping t c → textOf c m ≡ decomposition t c
 unfolding mapping decomposition
 text-told t c m says = go m ∙ ap (orItself c) says ∙ mapping-decomposition t.mappings c
   where
-    go : (m : Mapping) → text_of c m ≡ orItself c (said m)
+    go : (m : Mapping) → textOf c m ≡ orItself c (said m)
     go Itself = refl
     go (One a) = refl
     go (Two a b) = refl
@@ -41,16 +41,16 @@ module _ (n : ℕ) where
 
 -- the composite of a and b, where p is the candidate and m says its decomposition
 module _ (a b p : ℕ) (m : Mapping) (told : said m ≡ mapping unicode16 p) (right : verified a b p ≡ composite unicode16 a b) where
-  says : text_of p m ≡ decomposition unicode16 p
+  says : textOf p m ≡ decomposition unicode16 p
   says = text-told unicode16 p m told
 
-  pub made_itself : m ≡ Itself → none ≡ composite unicode16 a b
+  pub made-itself : m ≡ Itself → none ≡ composite unicode16 a b
   unfolding same
-  made_itself e = (rw (← says, e, and-false (eqb p a)) at right)
+  made-itself e = (rw (← says, e, and-false (eqb p a)) at right)
 
-  pub made_one : (x : ℕ) → m ≡ One x → none ≡ composite unicode16 a b
+  pub made-one : (x : ℕ) → m ≡ One x → none ≡ composite unicode16 a b
   unfolding same
-  made_one x e = (rw (← says, e, and-false (eqb x a)) at right)
+  made-one x e = (rw (← says, e, and-false (eqb x a)) at right)
 
   module _ (x y : ℕ) (e : m ≡ Two x y) where
     pub made-two : x ≡ a → y ≡ b → some p ≡ composite unicode16 a b

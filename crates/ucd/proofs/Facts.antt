@@ -10,7 +10,7 @@ use lib.Dec.{T, eqb, eqb→eq}
 use lib.ListN.{length}
 use Rattle.ucd.specs.Table.{Table, All, Atom, same, listed, member, decomposition, combiningClass, isComposite, compositeIn, composite}
 use Rattle.ucd.specs.Full.{pass, passes, full, Facts}
-use Rattle.ucd.proofs.Tests.{either, true-passes, both_left, both_right, same-equal, each, each_all}
+use Rattle.ucd.proofs.Tests.{either, true-passes, both-left, both-right, same-equal, each, each-all}
 use Rattle.ucd.proofs.Lists.{eachMapping, mapping-passes}
 
 module _ (t : Table) where
@@ -62,16 +62,16 @@ module _ (t : Table) where
     -- the decomposition of a composite
     pub is-decomposition : decomposition t p ≡ a ∷ b ∷ []
     unfolding isComposite primary
-    is-decomposition = same-equal (decomposition t p) (a ∷ b ∷ []) (both_left (same (decomposition t p) (a ∷ b ∷ [])) (primary p a) is)
+    is-decomposition = same-equal (decomposition t p) (a ∷ b ∷ []) (both-left (same (decomposition t p) (a ∷ b ∷ [])) (primary p a) is)
 
     -- a composite is a starter
     pub is-starter : combiningClass t p ≡ 0
     unfolding isComposite primary
     is-starter =
         eqb→eq (combiningClass t p) 0
-        (both_left (eqb (combiningClass t p) 0) (eqb (combiningClass t a) 0)
-        (both_right (not (listed t.exclusions p)) (eqb (combiningClass t p) 0 && eqb (combiningClass t a) 0)
-        (both_right (same (decomposition t p) (a ∷ b ∷ [])) (primary p a) is)))
+        (both-left (eqb (combiningClass t p) 0) (eqb (combiningClass t a) 0)
+        (both-right (not (listed t.exclusions p)) (eqb (combiningClass t p) 0 && eqb (combiningClass t a) 0)
+        (both-right (same (decomposition t p) (a ∷ b ∷ [])) (primary p a) is)))
 
   -- two code points are not one
   pub two-not-one : (a b c : ℕ) → decomposition t c ≡ a ∷ b ∷ [] → Atom t c → ⊥
@@ -86,19 +86,19 @@ module _ (t : Table) where
     -- the parts of the test
     settled-atom : (c : ℕ) → T (settled c) → Atom t c
     unfolding settled
-    settled-atom c h = same-equal (decomposition t c) (c ∷ []) (both_right (member t c) (same (decomposition t c) (c ∷ [])) h)
+    settled-atom c h = same-equal (decomposition t c) (c ∷ []) (both-right (member t c) (same (decomposition t c) (c ∷ [])) h)
 
     settled-member : (c : ℕ) → T (settled c) → T (member t c)
     unfolding settled
-    settled-member c h = both_left (member t c) (same (decomposition t c) (c ∷ [])) h
+    settled-member c h = both-left (member t c) (same (decomposition t c) (c ∷ [])) h
 
     good-settled : (c : ℕ) (text : List ℕ) → T (goodMapping c text) → T (each settled (full t (c ∷ [])))
     unfolding goodMapping
-    good-settled c text h = both_right (member t c) (each settled (full t (c ∷ []))) h
+    good-settled c text h = both-right (member t c) (each settled (full t (c ∷ []))) h
 
     good-member : (c : ℕ) (text : List ℕ) → T (goodMapping c text) → T (member t c)
     unfolding goodMapping
-    good-member c text h = both_left (member t c) (each settled (full t (c ∷ []))) h
+    good-member c text h = both-left (member t c) (each settled (full t (c ∷ []))) h
 
     -- full decomposition leaves nothing that decomposes
     full-atoms : (c : ℕ) → All (Atom t) (full t (c ∷ []))
@@ -106,7 +106,7 @@ module _ (t : Table) where
       where
         go : Atom t c ⊎ T (goodMapping c (decomposition t c)) → All (Atom t) (full t (c ∷ []))
         go (inl e) = rw (atom-full c e) (e, tt)
-        go (inr h) = each_all settled (Atom t) settled-atom (full t (c ∷ [])) (good-settled c (decomposition t c) h)
+        go (inr h) = each-all settled (Atom t) settled-atom (full t (c ∷ [])) (good-settled c (decomposition t c) h)
 
     -- the facts
     pub facts : Facts t
@@ -123,7 +123,7 @@ module _ (t : Table) where
       where
         go : Atom t c ⊎ T (goodMapping c (decomposition t c)) → All (λ x. T (member t x)) (full t (c ∷ []))
         go (inl e) = rw (atom-full c e) (m, tt)
-        go (inr h) = each_all settled (λ x. T (member t x)) settled-member (full t (c ∷ [])) (good-settled c (decomposition t c) h)
+        go (inr h) = each-all settled (λ x. T (member t x)) settled-member (full t (c ∷ [])) (good-settled c (decomposition t c) h)
 
     -- composition stays in the table
     pub composite-member : (a b p : ℕ) → composite t a b ≡ some p → T (member t p)

@@ -7,7 +7,7 @@ use mathlib.Core.Option.{Option, none, some}
 use Prim.Native.Nat.{ℕ, ◌≤◌}
 use lib.Dec.{T, leb, eqb, leb→le, eqb→eq}
 use Rattle.ucd.specs.Table.{inRanges, mappingIn, mappingOf, classIn, pickText, pickNumber}
-use Rattle.ucd.proofs.Tests.{either, true-passes, both_left, both_right}
+use Rattle.ucd.proofs.Tests.{either, true-passes, both-left, both-right}
 
 -- the test f passes at each code point that has a mapping, and its mapping
 abbrev pub eachMapping : (ℕ → List ℕ → Bool) → List (ℕ × List ℕ) → Bool
@@ -26,8 +26,8 @@ pub mapping-passes : (f : ℕ → List ℕ → Bool) (rs : List (ℕ × List ℕ
 unfolding mappingIn
 mapping-passes f [] h c = inl refl
 mapping-passes f (r ∷ rs) h c =
-    mapping-row f r.0 c r.1 (mappingIn rs c) (eqb r.0 c) refl (both_left (f r.0 r.1) (eachMapping f rs) h)
-    (mapping-passes f rs (both_right (f r.0 r.1) (eachMapping f rs) h) c)
+    mapping-row f r.0 c r.1 (mappingIn rs c) (eqb r.0 c) refl (both-left (f r.0 r.1) (eachMapping f rs) h)
+    (mapping-passes f rs (both-right (f r.0 r.1) (eachMapping f rs) h) c)
 
 -- and each number has no mapping in the list, or passes it with its decomposition
 pub mapping-none : (f : ℕ → List ℕ → Bool) (rs : List (ℕ × List ℕ)) → T (eachMapping f rs) → (c : ℕ) → (mappingOf rs c ≡ none) ⊎ T (f c (mappingIn rs c))
@@ -35,8 +35,8 @@ unfolding mappingOf mappingIn
 mapping-none f [] h c = inl refl
 mapping-none f (r ∷ rs) h c =
     either (eqb r.0 c)
-    (λ e. rw e (inr (subst (λ (x : ℕ). T (f x r.1)) (eqb→eq r.0 c (true-passes (eqb r.0 c) e)) (both_left (f r.0 r.1) (eachMapping f rs) h))))
-    (λ e. rw e (mapping-none f rs (both_right (f r.0 r.1) (eachMapping f rs) h) c))
+    (λ e. rw e (inr (subst (λ (x : ℕ). T (f x r.1)) (eqb→eq r.0 c (true-passes (eqb r.0 c) e)) (both-left (f r.0 r.1) (eachMapping f rs) h))))
+    (λ e. rw e (mapping-none f rs (both-right (f r.0 r.1) (eachMapping f rs) h) c))
 
 -- the decomposition of c is its mapping, or c itself where it has none
 abbrev pub orItself : ℕ → Option (List ℕ) → List ℕ
@@ -64,8 +64,8 @@ pub class-passes : (f : ℕ → ℕ → Bool) (rs : List (ℕ × ℕ)) → T (ea
 unfolding classIn
 class-passes f [] h c = inl refl
 class-passes f (r ∷ rs) h c =
-    class-row f r.0 c r.1 (classIn rs c) (eqb r.0 c) refl (both_left (f r.0 r.1) (eachClass f rs) h)
-    (class-passes f rs (both_right (f r.0 r.1) (eachClass f rs) h) c)
+    class-row f r.0 c r.1 (classIn rs c) (eqb r.0 c) refl (both-left (f r.0 r.1) (eachClass f rs) h)
+    (class-passes f rs (both-right (f r.0 r.1) (eachClass f rs) h) c)
 
 -- the test f passes at the first and the last code point of each range
 abbrev pub eachRange : (ℕ → ℕ → Bool) → List (ℕ × ℕ) → Bool
@@ -83,8 +83,8 @@ range-passes f (r ∷ rs) h c m =
     let inside : T (leb r.0 c && leb c r.1) = true-passes (leb r.0 c && leb c r.1) e in (
       r.0,
       r.1,
-      leb→le r.0 c (both_left (leb r.0 c) (leb c r.1) inside),
-      leb→le c r.1 (both_right (leb r.0 c) (leb c r.1) inside),
-      both_left (f r.0 r.1) (eachRange f rs) h,
+      leb→le r.0 c (both-left (leb r.0 c) (leb c r.1) inside),
+      leb→le c r.1 (both-right (leb r.0 c) (leb c r.1) inside),
+      both-left (f r.0 r.1) (eachRange f rs) h,
     ))
-    (λ e. range-passes f rs (both_right (f r.0 r.1) (eachRange f rs) h) c (rw e at m))
+    (λ e. range-passes f rs (both-right (f r.0 r.1) (eachRange f rs) h) c (rw e at m))

@@ -37,9 +37,9 @@ module _ (low high c : ℕ) (at_least_lem : low ≤ c) (less : c < high) where
       (λ e. rw (e, outside r e) (narrowed rs))
 
 -- a number at least the first of a single range
-pub up_to : (first last c : ℕ) → first ≤ c → leb c last ≡ inRanges ((first, last) ∷ []) c
+pub upTo : (first last c : ℕ) → first ≤ c → leb c last ≡ inRanges ((first, last) ∷ []) c
 unfolding inRanges
-up_to first last c h = rw (le-leb first c h) (sym (or-false (leb c last)))
+upTo first last c h = rw (le-leb first c h) (sym (or-false (leb c last)))
 
 -- a single code point
 pub alone : (k c : ℕ) → eqb c k ≡ inRanges ((k, k) ∷ []) c
@@ -57,4 +57,4 @@ alone k c =
 
 -- a number of a single range
 pub whole : (first last c : ℕ) → first ≤ c → c ≤ last → true ≡ inRanges ((first, last) ∷ []) c
-whole first last c low high = sym (le-leb c last high) ∙ up_to first last c low
+whole first last c low high = sym (le-leb c last high) ∙ upTo first last c low

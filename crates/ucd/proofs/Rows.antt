@@ -11,9 +11,9 @@ use borrow.Author.Tests.{ne_eqb}
 use Rattle.ucd.specs.Table.{pickText, pickNumber, pickPoint, same, listed, mappingIn, mappingOf, classIn, mapping, combiningClass, composite}
 use Rattle.ucd.specs.Unicode16.{unicode16, mappings16, classes16, exclusions16}
 use Rattle.ucd.specs.Answer.{unpackedText, unpacked, verified}
-use Rattle.ucd.proofs.Tests.{either, both_left, both_right}
+use Rattle.ucd.proofs.Tests.{either, both-left, both-right}
 use Rattle.ucd.proofs.RowData.{mappingNumbers, classNumbers, displacementNumbers, candidateNumbers, modulus}
-use Rattle.ucd.proofs.RowLaw.{row_in, number_at, entries, ascending, number-at, row_read, NoRow, no-row-read}
+use Rattle.ucd.proofs.RowLaw.{rowIn, numberAt, entries, ascending, number-at, row-read, NoRow, no-row-read}
 use Rattle.ucd.proofs.Unicode16.{low-atom, low-starter, no-composite}
 use Rattle.ucd.proofs.Lists.{eachMapping}
 use Rattle.ucd.proofs.Facts.{primary}
@@ -32,13 +32,13 @@ unfolding classNumbers classes16
 class-entries = refl
 
 -- so each number of the rows is the class
-pub class-number : (c : ℕ) → number_at classNumbers c ≡ combiningClass unicode16 c
+pub class-number : (c : ℕ) → numberAt classNumbers c ≡ combiningClass unicode16 c
 unfolding combiningClass unicode16
 class-number c = number-at 0 classNumbers class-numbers-ascend c ∙ ap (λ (es : List (ℕ × ℕ)). classIn es c) class-entries
 
 -- what an arm of the code's match reads, and what its last arm answers
-pub class-arm : (c k : ℕ) → c / 32 ≡ k → get_or (row_in classNumbers k) (c % 32) 0 ≡ combiningClass unicode16 c
-class-arm c k e = row_read classNumbers c k e ∙ class-number c
+pub class-arm : (c k : ℕ) → c / 32 ≡ k → get_or (rowIn classNumbers k) (c % 32) 0 ≡ combiningClass unicode16 c
+class-arm c k e = row-read classNumbers c k e ∙ class-number c
 
 pub class-rest : (c : ℕ) → NoRow (Unit {0}) classNumbers (c / 32) → 0 ≡ combiningClass unicode16 c
 class-rest c h = no-row-read classNumbers c h ∙ class-number c
@@ -74,21 +74,21 @@ unpacked-in : (es : List (ℕ × ℕ)) (c : ℕ) → T (numbered es) → unpacke
 unfolding classIn mappingOf
 unpacked-in [] c h = refl
 unpacked-in (e ∷ es) c h =
-    let some-number : 0 < e.1 = ltb→lt 0 e.1 (both_left (ltb 0 e.1) (numbered es) h) in
+    let some-number : 0 < e.1 = ltb→lt 0 e.1 (both-left (ltb 0 e.1) (numbered es) h) in
     either (eqb e.0 c)
     (λ k. rw (k, ne_eqb e.1 0 (omega arith)))
-    (λ k. rw k (unpacked-in es c (both_right (ltb 0 e.1) (numbered es) h)))
+    (λ k. rw k (unpacked-in es c (both-right (ltb 0 e.1) (numbered es) h)))
 
 -- so each number of the rows stands for the mapping
-pub mapping-number : (c : ℕ) → unpacked (number_at mappingNumbers c) ≡ mapping unicode16 c
+pub mapping-number : (c : ℕ) → unpacked (numberAt mappingNumbers c) ≡ mapping unicode16 c
 unfolding mapping unicode16
 mapping-number c =
     ap unpacked (number-at 0 mappingNumbers mapping-numbers-ascend c) ∙ unpacked-in (entries mappingNumbers) c entries-numbered ∙
     ap (λ (rs : List (ℕ × List ℕ)). mappingOf rs c) mapping-entries
 
 -- what an arm of the code's match reads, and what its last arm answers
-pub mapping-arm : (c k : ℕ) → c / 32 ≡ k → unpacked (get_or (row_in mappingNumbers k) (c % 32) 0) ≡ mapping unicode16 c
-mapping-arm c k e = ap unpacked (row_read mappingNumbers c k e) ∙ mapping-number c
+pub mapping-arm : (c k : ℕ) → c / 32 ≡ k → unpacked (get_or (rowIn mappingNumbers k) (c % 32) 0) ≡ mapping unicode16 c
+mapping-arm c k e = ap unpacked (row-read mappingNumbers c k e) ∙ mapping-number c
 
 pub mapping-rest : (c : ℕ) → NoRow (Unit {0}) mappingNumbers (c / 32) → unpacked 0 ≡ mapping unicode16 c
 mapping-rest c h = ap unpacked (no-row-read mappingNumbers c h) ∙ mapping-number c
@@ -98,7 +98,7 @@ mapping-rest c h = ap unpacked (no-row-read mappingNumbers c h) ∙ mapping-numb
 -- the one code point that can be the composite of a and b
 unfoldable pub candidateOf : ℕ → ℕ → ℕ
 unfolding displacementNumbers candidateNumbers
-candidateOf a b = number_at candidateNumbers (number_at displacementNumbers b + a % modulus)
+candidateOf a b = numberAt candidateNumbers (numberAt displacementNumbers b + a % modulus)
 
 -- the test: a mapping's candidate is the one that has it exactly if that is a primary composite
 candidates-right : T (eachMapping (rightCandidate unicode16 candidateOf) mappings16)
@@ -111,22 +111,22 @@ unfolding unicode16
 candidate-verified a b = candidate-composite unicode16 candidateOf candidates-right a b
 
 -- what an arm of the code's first match reads, and what its last arm answers
-pub displacement-arm : (b k : ℕ) → b / 32 ≡ k → get_or (row_in displacementNumbers k) (b % 32) 0 ≡ number_at displacementNumbers b
-displacement-arm b k e = row_read displacementNumbers b k e
+pub displacement-arm : (b k : ℕ) → b / 32 ≡ k → get_or (rowIn displacementNumbers k) (b % 32) 0 ≡ numberAt displacementNumbers b
+displacement-arm b k e = row-read displacementNumbers b k e
 
-pub displacement-rest : (b : ℕ) → NoRow (Unit {0}) displacementNumbers (b / 32) → 0 ≡ number_at displacementNumbers b
+pub displacement-rest : (b : ℕ) → NoRow (Unit {0}) displacementNumbers (b / 32) → 0 ≡ numberAt displacementNumbers b
 displacement-rest b h = no-row-read displacementNumbers b h
 
 -- what an arm of its second match reads at the displacement d, and what its last arm answers
-module _ (a b d : ℕ) (e : d ≡ number_at displacementNumbers b) where
+module _ (a b d : ℕ) (e : d ≡ numberAt displacementNumbers b) where
   -- the place is the candidate's
-  placed : number_at candidateNumbers (d + a % modulus) ≡ candidateOf a b
+  placed : numberAt candidateNumbers (d + a % modulus) ≡ candidateOf a b
   unfolding candidateOf
-  placed = ap (λ (m : ℕ). number_at candidateNumbers (m + a % modulus)) e
+  placed = ap (λ (m : ℕ). numberAt candidateNumbers (m + a % modulus)) e
 
   pub candidate-arm : (k : ℕ) → (d + a % modulus) / 32 ≡ k
-      → verified a b (get_or (row_in candidateNumbers k) ((d + a % modulus) % 32) 0) ≡ composite unicode16 a b
-  candidate-arm k h = ap (verified a b) (row_read candidateNumbers (d + a % modulus) k h ∙ placed) ∙ candidate-verified a b
+      → verified a b (get_or (rowIn candidateNumbers k) ((d + a % modulus) % 32) 0) ≡ composite unicode16 a b
+  candidate-arm k h = ap (verified a b) (row-read candidateNumbers (d + a % modulus) k h ∙ placed) ∙ candidate-verified a b
 
   pub candidate-rest : NoRow (Unit {0}) candidateNumbers ((d + a % modulus) / 32) → verified a b 0 ≡ composite unicode16 a b
   candidate-rest h = ap (verified a b) (no-row-read candidateNumbers (d + a % modulus) h ∙ placed) ∙ candidate-verified a b

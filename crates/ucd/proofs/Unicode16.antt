@@ -11,7 +11,7 @@ use lib.ListN.{length, length-append}
 use Rattle.ucd.specs.Table.{Atom, same, inRanges, mappingIn, mappingOf, classIn, member, mapping, decomposition, combiningClass, composite}
 use Rattle.ucd.specs.Full.{pass, passes, full, Facts}
 use Rattle.ucd.specs.Unicode16.{unicode16, ranges16, mappings16, classes16}
-use Rattle.ucd.proofs.Tests.{both_left, both_right, same-equal}
+use Rattle.ucd.proofs.Tests.{both-left, both-right, same-equal}
 use Rattle.ucd.proofs.Lists.{eachMapping, mapping-passes, mapping-none, eachClass, class-passes, eachRange, range-passes}
 use Rattle.ucd.proofs.Facts.{settled, goodMapping, good, facts, atom-full, composite-is, is-decomposition, two-not-one}
 
@@ -36,9 +36,9 @@ unfolding endsBelow ranges16
 ranges-right = tt
 
 -- a code point of the table lies below D800
-pub member_below : (c : ℕ) → T (member unicode16 c) → c < 0xD800
+pub member-below : (c : ℕ) → T (member unicode16 c) → c < 0xD800
 unfolding member unicode16 endsBelow
-member_below c h =
+member-below c h =
     let (first, last, from, to, test) = range-passes endsBelow ranges16 ranges-right c h in
     let below : last < 0xD800 = ltb→lt last 0xD800 test in omega arith
 
@@ -86,13 +86,13 @@ mappings-right = tt
 
 -- the parts of the test
 module _ (c : ℕ) (text : List ℕ) (h : T (rightMapping c text)) where
-  not_low : 0x00C0 ≤ c
+  not-low : 0x00C0 ≤ c
   unfolding rightMapping
-  not_low = leb→le 0x00C0 c (both_left (leb 0x00C0 c) (rightText text) h)
+  not-low = leb→le 0x00C0 c (both-left (leb 0x00C0 c) (rightText text) h)
 
   text-right : T (rightText text)
   unfolding rightMapping
-  text-right = both_right (leb 0x00C0 c) (rightText text) h
+  text-right = both-right (leb 0x00C0 c) (rightText text) h
 
 one-atom : (a : ℕ) → T (rightText (a ∷ [])) → Atom unicode16 a
 unfolding rightText atom
@@ -101,14 +101,14 @@ one-atom a h = same-equal (decomposition unicode16 a) (a ∷ []) h
 module _ (a b : ℕ) (h : T (rightText (a ∷ b ∷ []))) where
   second-atom : Atom unicode16 b
   unfolding rightText atom
-  second-atom = same-equal (decomposition unicode16 b) (b ∷ []) (both_left (atom b) (leb 0x0300 b && leb b 0x0338) h)
+  second-atom = same-equal (decomposition unicode16 b) (b ∷ []) (both-left (atom b) (leb 0x0300 b && leb b 0x0338) h)
 
   second-mark : (0x0300 ≤ b) × (b ≤ 0x0338)
   unfolding rightText
   second-mark =
-      let bounds : T (leb 0x0300 b && leb b 0x0338) = both_right (atom b) (leb 0x0300 b && leb b 0x0338) h in (
-        leb→le 0x0300 b (both_left (leb 0x0300 b) (leb b 0x0338) bounds),
-        leb→le b 0x0338 (both_right (leb 0x0300 b) (leb b 0x0338) bounds),
+      let bounds : T (leb 0x0300 b && leb b 0x0338) = both-right (atom b) (leb 0x0300 b && leb b 0x0338) h in (
+        leb→le 0x0300 b (both-left (leb 0x0300 b) (leb b 0x0338) bounds),
+        leb→le b 0x0338 (both-right (leb 0x0300 b) (leb b 0x0338) bounds),
       )
 
 -- a number has no mapping, or its decomposition is right
@@ -130,7 +130,7 @@ low-atom c low = go (mapping-right c)
   where
     go : Atom unicode16 c ⊎ T (rightMapping c (decomposition unicode16 c)) → Atom unicode16 c
     go (inl one) = one
-    go (inr h) = absurd (let high : 0x00C0 ≤ c = not_low c (decomposition unicode16 c) h in let z : ⊥ = omega arith in z)
+    go (inr h) = absurd (let high : 0x00C0 ≤ c = not-low c (decomposition unicode16 c) h in let z : ⊥ = omega arith in z)
 
 -- it has no mapping
 pub low-unmapped : (c : ℕ) → c < 0x00C0 → mapping unicode16 c ≡ none
@@ -139,7 +139,7 @@ low-unmapped c low = go (mapping-none rightMapping mappings16 mappings-right c)
   where
     go : (mappingOf mappings16 c ≡ none) ⊎ T (rightMapping c (mappingIn mappings16 c)) → mappingOf mappings16 c ≡ none
     go (inl none-here) = none-here
-    go (inr h) = absurd (let high : 0x00C0 ≤ c = not_low c (mappingIn mappings16 c) h in let z : ⊥ = omega arith in z)
+    go (inr h) = absurd (let high : 0x00C0 ≤ c = not-low c (mappingIn mappings16 c) h in let z : ⊥ = omega arith in z)
 
 -- a decomposition is one code point or two
 pub decomposition-cases : {P : Type 0} (c : ℕ)

@@ -15,9 +15,9 @@ said (One a) = some (a ∷ [])
 said (Two a b) = some (a ∷ b ∷ [])
 
 -- the composite, if there is one
-abbrev pub point_of : Made → Option ℕ
-point_of (Point p) = some p
-point_of Nothing = none
+abbrev pub pointOf : Made → Option ℕ
+pointOf (Point p) = some p
+pointOf Nothing = none
 
 -- the mapping that a number of the rows stands for: 0 for none, else its first code point times 65536, plus the second, if there is one
 abbrev pub unpackedText : ℕ → List ℕ

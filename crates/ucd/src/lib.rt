@@ -4,7 +4,7 @@
 ghost use Rattle.std.specs.Prelude.{◌≡◌};
 ghost use Rattle.ucd.specs.Table.{member, mapping, combiningClass, composite};
 ghost use Rattle.ucd.specs.Unicode16.{unicode16};
-ghost use Rattle.ucd.specs.Answer.{said, point_of};
+ghost use Rattle.ucd.specs.Answer.{said, pointOf};
 
 mod table;
 
@@ -88,7 +88,7 @@ pub enum Made {
 
 // The composite of a and b: the candidate for them, if its decomposition is a, b.
 pub fn composite(a: u16, b: u16) -> Made
-    ensures { point_of result ≡ composite unicode16 a b }
+    ensures { pointOf result ≡ composite unicode16 a b }
 {
     if b < 0x0300 {
         return Made::Nothing;

@@ -12,7 +12,7 @@ use lib.Dec.{eqb}
 use lib.ListN.{length, drop, get_or, drop_of_length-le, length-append, length-drop}
 use lib.Seq.{drop-cons, drop-drop}
 use Rattle.ji.specs.Text.{begins, replaceFrom, replaceAll}
-use Rattle.ji.proofs.Bools.{false-true, either, and-false, and-true, and_yes, and_left, and_right, text-yes, text-no}
+use Rattle.ji.proofs.Bools.{false-true, either, and-false, and-true, and-yes, and-left, and-right, text-yes, text-no}
 
 -- a text from i on begins with its element at i
 pub drop-next : (s : List ℕ) (i : ℕ) → i < length s → drop i s ≡ get_or s i 0 ∷ drop (i + 1) s
@@ -30,7 +30,7 @@ pub begins-length : (p s : List ℕ) → begins p s ≡ true → length p ≤ le
 unfolding begins
 begins-length [] s e = omega arith
 begins-length (a ∷ p) [] e = absurd (false-true e)
-begins-length (a ∷ p) (x ∷ s) e = suc-le-suc (begins-length p s (and_right (eqb x a) (begins p s) e))
+begins-length (a ∷ p) (x ∷ s) e = suc-le-suc (begins-length p s (and-right (eqb x a) (begins p s) e))
 
 -- one element of the pattern against one of the text
 pub begins-step : (p s : List ℕ) (k i : ℕ) → k < length p → i < length s → begins (drop k p) (drop i s) ≡ (eqb (get_or s i 0) (get_or p k 0) && begins (drop (k + 1) p) (drop (i + 1) s))
@@ -48,12 +48,12 @@ unfolding begins
 begins-split [] s e = refl
 begins-split (a ∷ p) [] e = absurd (false-true e)
 begins-split (a ∷ p) (x ∷ s) e =
-    ap₂ ◌∷◌ (eqb-true x a (and_left (eqb x a) (begins p s) e)) (begins-split p s (and_right (eqb x a) (begins p s) e))
+    ap₂ ◌∷◌ (eqb-true x a (and-left (eqb x a) (begins p s) e)) (begins-split p s (and-right (eqb x a) (begins p s) e))
 
 pub begins-own : (p s : List ℕ) → begins p (p ++ s) ≡ true
 unfolding begins
 begins-own [] s = refl
-begins-own (a ∷ p) s = and_yes (eqb a a) (begins p (p ++ s)) (eq-eqb a a refl) ∙ begins-own p s
+begins-own (a ∷ p) s = and-yes (eqb a a) (begins p (p ++ s)) (eq-eqb a a refl) ∙ begins-own p s
 
 -- a pattern of one code point
 pub begins-point : (a x : ℕ) (s : List ℕ) → begins (a ∷ []) (x ∷ s) ≡ eqb x a
@@ -114,17 +114,17 @@ replace-short p r s h = replace-none p r s (λ i k. begins-short p (drop i s) (s
 module _ (p : List ℕ) (some : 0 < length p) (P : List ℕ → Type 0) (nil : P [])
     (hit : (x : ℕ) (s : List ℕ) → begins p (x ∷ s) ≡ true → P (drop (length p) (x ∷ s)) → P (x ∷ s))
     (miss : (x : ℕ) (s : List ℕ) → begins p (x ∷ s) ≡ false → P s → P (x ∷ s)) where
-  up_to : (n : ℕ) (s : List ℕ) → length s ≤ n → P s
-  up_to zero [] h = nil
-  up_to zero (x ∷ s) h = absurd (omega arith)
-  up_to (suc n) [] h = nil
-  up_to (suc n) (x ∷ s) h =
+  upTo : (n : ℕ) (s : List ℕ) → length s ≤ n → P s
+  upTo zero [] h = nil
+  upTo zero (x ∷ s) h = absurd (omega arith)
+  upTo (suc n) [] h = nil
+  upTo (suc n) (x ∷ s) h =
       either (begins p (x ∷ s))
-      (λ e. hit x s e (up_to n (drop (length p) (x ∷ s)) (omega (arith, length-drop (length p) (x ∷ s)))))
-      (λ e. miss x s e (up_to n s (omega arith)))
+      (λ e. hit x s e (upTo n (drop (length p) (x ∷ s)) (omega (arith, length-drop (length p) (x ∷ s)))))
+      (λ e. miss x s e (upTo n s (omega arith)))
 
   pub replace-induction : (s : List ℕ) → P s
-  replace-induction s = up_to (length s) s (omega arith)
+  replace-induction s = upTo (length s) s (omega arith)
 
 module _ (p r : List ℕ) (some : 0 < length p) where
   -- the length at an occurrence

@@ -13,55 +13,55 @@ use Rattle.ji.specs.Text.{allAscii}
 use Rattle.ji.specs.Utf8.{decode, encode}
 use Rattle.ji.specs.Unicode.{members}
 use Rattle.ji.specs.Reply.{good, checkPoints}
-use Rattle.ji.proofs.Bools.{and_yes, and_left, and_right, or_yes, within-yes}
-use Rattle.ji.proofs.utf8.Encoding.{bytes_one, encode-nil, encode-cons}
+use Rattle.ji.proofs.Bools.{and-yes, and-left, and-right, or-yes, within-yes}
+use Rattle.ji.proofs.utf8.Encoding.{bytes-one, encode-nil, encode-cons}
 use Rattle.ji.proofs.unicode.Checked.{points-good}
 
 pub ascii-low : (x : ℕ) (s : List ℕ) → allAscii (x ∷ s) ≡ true → x ≤ 0x7F
 unfolding allAscii
-ascii-low x s h = leb-true x 0x7F (and_left (leb x 0x7F) (allAscii s) h)
+ascii-low x s h = leb-true x 0x7F (and-left (leb x 0x7F) (allAscii s) h)
 
 pub ascii-rest : (x : ℕ) (s : List ℕ) → allAscii (x ∷ s) ≡ true → allAscii s ≡ true
 unfolding allAscii
-ascii-rest x s h = and_right (leb x 0x7F) (allAscii s) h
+ascii-rest x s h = and-right (leb x 0x7F) (allAscii s) h
 
-pub ascii_more : (x : ℕ) (s : List ℕ) → x ≤ 0x7F → allAscii s ≡ true → allAscii (x ∷ s) ≡ true
+pub ascii-more : (x : ℕ) (s : List ℕ) → x ≤ 0x7F → allAscii s ≡ true → allAscii (x ∷ s) ≡ true
 unfolding allAscii
-ascii_more x s low h = and_yes _ _ (le-leb x 0x7F low) ∙ h
+ascii-more x s low h = and-yes _ _ (le-leb x 0x7F low) ∙ h
 
-pub ascii_nil : allAscii [] ≡ true
+pub ascii-nil : allAscii [] ≡ true
 unfolding allAscii
-ascii_nil = refl
+ascii-nil = refl
 
 pub ascii-at : (s : List ℕ) (k : ℕ) → allAscii s ≡ true → get_or s k 0 ≤ 0x7F
 ascii-at [] k h = omega arith
 ascii-at (x ∷ s) zero h = ascii-low x s h
 ascii-at (x ∷ s) (suc k) h = ascii-at s k (ascii-rest x s h)
 
-pub ascii_take : (n : ℕ) (s : List ℕ) → allAscii s ≡ true → allAscii (take n s) ≡ true
-ascii_take zero s h = ascii_nil
-ascii_take (suc n) [] h = ascii_nil
-ascii_take (suc n) (x ∷ s) h = ascii_more x (take n s) (ascii-low x s h) (ascii_take n s (ascii-rest x s h))
+pub ascii-take : (n : ℕ) (s : List ℕ) → allAscii s ≡ true → allAscii (take n s) ≡ true
+ascii-take zero s h = ascii-nil
+ascii-take (suc n) [] h = ascii-nil
+ascii-take (suc n) (x ∷ s) h = ascii-more x (take n s) (ascii-low x s h) (ascii-take n s (ascii-rest x s h))
 
-pub ascii_drop : (n : ℕ) (s : List ℕ) → allAscii s ≡ true → allAscii (drop n s) ≡ true
-ascii_drop zero s h = h
-ascii_drop (suc n) [] h = h
-ascii_drop (suc n) (x ∷ s) h = ascii_drop n s (ascii-rest x s h)
+pub ascii-drop : (n : ℕ) (s : List ℕ) → allAscii s ≡ true → allAscii (drop n s) ≡ true
+ascii-drop zero s h = h
+ascii-drop (suc n) [] h = h
+ascii-drop (suc n) (x ∷ s) h = ascii-drop n s (ascii-rest x s h)
 
 -- an ASCII text is its own bytes
 pub ascii-bytes : (s : List ℕ) → allAscii s ≡ true → encode s ≡ s
 ascii-bytes [] h = encode-nil
-ascii-bytes (x ∷ s) h = encode-cons x s ∙ ap₂ (λ (u v : List ℕ). u ++ v) (bytes_one x (ascii-low x s h)) (ascii-bytes s (ascii-rest x s h))
+ascii-bytes (x ∷ s) h = encode-cons x s ∙ ap₂ (λ (u v : List ℕ). u ++ v) (bytes-one x (ascii-low x s h)) (ascii-bytes s (ascii-rest x s h))
 
 -- ASCII is in the table
 pub ascii-member : (x : ℕ) → x < 0x80 → member unicode16 x ≡ true
 unfolding member unicode16 ranges16 inRanges
-ascii-member x h = or_yes _ _ (within-yes 0 0x7F x (omega arith) (omega arith))
+ascii-member x h = or-yes _ _ (within-yes 0 0x7F x (omega arith) (omega arith))
 
 pub ascii-members : (s : List ℕ) → allAscii s ≡ true → members unicode16 s ≡ true
 unfolding members
 ascii-members [] h = refl
-ascii-members (x ∷ s) h = and_yes _ _ (ascii-member x (omega (arith, ascii-low x s h))) ∙ ascii-members s (ascii-rest x s h)
+ascii-members (x ∷ s) h = and-yes _ _ (ascii-member x (omega (arith, ascii-low x s h))) ∙ ascii-members s (ascii-rest x s h)
 
 -- and ASCII bytes are a text of the table
 pub ascii-good : (s : List ℕ) → allAscii s ≡ true → checkPoints unicode16 (decode s) ≡ good s

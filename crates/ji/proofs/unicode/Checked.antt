@@ -11,7 +11,7 @@ use lib.ListN.{length}
 use Rattle.ucd.specs.Table.{Table}
 use Rattle.ucd.specs.Unicode16.{unicode16}
 use Rattle.ucd.proofs.Tests.{true-passes}
-use Rattle.ucd.proofs.Unicode16.{member_below}
+use Rattle.ucd.proofs.Unicode16.{member-below}
 use Rattle.ji.specs.Text.{last}
 use Rattle.ji.specs.Utf8.{decode, encode, lastPoint}
 use Rattle.ji.specs.Unicode.{members}
@@ -25,19 +25,19 @@ use Rattle.ji.proofs.utf8.Last.{point-bytes}
 use Rattle.ji.proofs.utf8.RoundTrip.{decode-encode, encode-decode}
 
 -- the bytes of a text of the table are read back
-pub read_back : (s : List ℕ) → members unicode16 s ≡ true → decode (encode s) ≡ some s
-read_back s h = decode-encode s (members-all unicode16 (λ x. x < 0xD800) (λ c m. member_below c (true-passes _ m)) s h)
+pub read-back : (s : List ℕ) → members unicode16 s ≡ true → decode (encode s) ≡ some s
+read-back s h = decode-encode s (members-all unicode16 (λ x. x < 0xD800) (λ c m. member-below c (true-passes _ m)) s h)
 
 -- the last code point is read back from the end of the bytes
 pub last-back : (s : List ℕ) → members unicode16 s ≡ true → lastPoint (encode s) ≡ last s
-last-back s h = point-bytes s (members-all unicode16 (λ x. x < 0xD800) (λ c m. member_below c (true-passes _ m)) s h)
+last-back s h = point-bytes s (members-all unicode16 (λ x. x < 0xD800) (λ c m. member-below c (true-passes _ m)) s h)
 
 -- and are that text
 pub points-good : (s : List ℕ) → members unicode16 s ≡ true → checkPoints unicode16 (decode (encode s)) ≡ good s
-points-good s h = ap (checkPoints unicode16) (read_back s h) ∙ ap (λ (b : Bool). pickChecked b (good s) (bad OutsideTable)) h
+points-good s h = ap (checkPoints unicode16) (read-back s h) ∙ ap (λ (b : Bool). pickChecked b (good s) (bad OutsideTable)) h
 
-pub bytes_good : (bytes s : List ℕ) → members unicode16 s ≡ true → bytes ≡ encode s → checkPoints unicode16 (decode bytes) ≡ good s
-bytes_good bytes s h is = ap (λ (l : List ℕ). checkPoints unicode16 (decode l)) is ∙ points-good s h
+pub bytes-good : (bytes s : List ℕ) → members unicode16 s ≡ true → bytes ≡ encode s → checkPoints unicode16 (decode bytes) ≡ good s
+bytes-good bytes s h is = ap (λ (l : List ℕ). checkPoints unicode16 (decode l)) is ∙ points-good s h
 
 -- so that they pass the check
 pub check-passes : (limit : ℕ) (s : List ℕ) → members unicode16 s ≡ true → length (encode s) ≤ limit → checkWithin unicode16 limit (encode s) ≡ good s
@@ -58,25 +58,25 @@ pub record Passed (t : Table) (limit : ℕ) (bytes s : List ℕ) : Type 0 where
   pub written : encode s ≡ bytes
 
 module _ (t : Table) (limit : ℕ) (bytes s : List ℕ) where
-  by_members : (u : List ℕ) (b : Bool) → members t u ≡ b → pickChecked b (good u) (bad OutsideTable) ≡ good s → (u ≡ s) × (members t s ≡ true)
-  by_members u true m e = let f : u ≡ s = cc in (f, ap (members t) (sym f) ∙ m)
-  by_members u false m e = absurd (let z : ◌≡◌ {A = ℕ} 0 1 = cc in omega arith)
+  by-members : (u : List ℕ) (b : Bool) → members t u ≡ b → pickChecked b (good u) (bad OutsideTable) ≡ good s → (u ≡ s) × (members t s ≡ true)
+  by-members u true m e = let f : u ≡ s = cc in (f, ap (members t) (sym f) ∙ m)
+  by-members u false m e = absurd (let z : ◌≡◌ {A = ℕ} 0 1 = cc in omega arith)
 
   by-points : (o : Option (List ℕ)) → decode bytes ≡ o → checkPoints t o ≡ good s → (members t s ≡ true) × (encode s ≡ bytes)
   by-points none d e = absurd (let z : ◌≡◌ {A = ℕ} 0 1 = cc in omega arith)
   by-points (some u) d e =
-      let f = by_members u (members t u) refl e in
+      let f = by-members u (members t u) refl e in
       (f.1, encode-decode bytes s (d ∙ ap some f.0))
 
-  by_length : (b : Bool) → leb (length bytes) limit ≡ b → pickChecked b (checkPoints t (decode bytes)) (bad TooLong) ≡ good s → Passed t limit bytes s
-  by_length true l e =
+  by-length : (b : Bool) → leb (length bytes) limit ≡ b → pickChecked b (checkPoints t (decode bytes)) (bad TooLong) ≡ good s → Passed t limit bytes s
+  by-length true l e =
       let f = by-points (decode bytes) refl e in
       record { short = leb-true (length bytes) limit l; inside = f.0; written = f.1 }
-  by_length false l e = absurd (let z : ◌≡◌ {A = ℕ} 0 1 = cc in omega arith)
+  by-length false l e = absurd (let z : ◌≡◌ {A = ℕ} 0 1 = cc in omega arith)
 
   pub check-passed : checkWithin t limit bytes ≡ good s → Passed t limit bytes s
   unfolding checkWithin
-  check-passed e = by_length (leb (length bytes) limit) refl e
+  check-passed e = by-length (leb (length bytes) limit) refl e
 
 -- the same of a text of at most 256 bytes, and of one of any length
 pub text-passed : (bytes s : List ℕ) → checkText unicode16 bytes ≡ good s → Passed unicode16 256 bytes s

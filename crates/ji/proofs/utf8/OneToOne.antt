@@ -13,10 +13,10 @@ use lib.Seq.{drop-append_seam}
 use Rattle.ucd.specs.Table.{pickNumber, same}
 use Rattle.ucd.proofs.Tests.{true-passes, same-equal, same-itself}
 use Rattle.ji.specs.Text.{begins}
-use Rattle.ji.specs.Utf8.{bytes_of, encode}
-use Rattle.ji.proofs.Bools.{either, false-true, and_yes, number-yes, number-no}
+use Rattle.ji.specs.Utf8.{bytesOf, encode}
+use Rattle.ji.proofs.Bools.{either, false-true, and-yes, number-yes, number-no}
 use Rattle.ji.proofs.text.Laws.{begins-split, begins-own}
-use Rattle.ji.proofs.utf8.Encoding.{bytes_one, bytes-two, bytes-three, bytes-four, encode-nil, encode-cons, encode-append}
+use Rattle.ji.proofs.utf8.Encoding.{bytes-one, bytes-two, bytes-three, bytes-four, encode-nil, encode-cons, encode-append}
 
 -- one of four, by the first byte of a sequence
 abbrev byFirst : ℕ → ℕ → ℕ → ℕ → ℕ → ℕ
@@ -32,14 +32,14 @@ abbrev behind : List ℕ → List ℕ
 behind l = drop (byFirst (get_or l 0 0) 1 2 3 4) l
 
 module _ (b one two three four : ℕ) where
-  first_one : b ≤ 0x7F → byFirst b one two three four ≡ one
-  first_one h = number-yes _ _ _ (le-leb _ _ h)
+  first-one : b ≤ 0x7F → byFirst b one two three four ≡ one
+  first-one h = number-yes _ _ _ (le-leb _ _ h)
 
-  first_two : 0x7F < b → b ≤ 0xDF → byFirst b one two three four ≡ two
-  first_two h k = number-no _ _ _ (lt-leb _ _ h) ∙ number-yes _ _ _ (le-leb _ _ k)
+  first-two : 0x7F < b → b ≤ 0xDF → byFirst b one two three four ≡ two
+  first-two h k = number-no _ _ _ (lt-leb _ _ h) ∙ number-yes _ _ _ (le-leb _ _ k)
 
-  first_three : 0xDF < b → b ≤ 0xEF → byFirst b one two three four ≡ three
-  first_three h k =
+  first-three : 0xDF < b → b ≤ 0xEF → byFirst b one two three four ≡ three
+  first-three h k =
       let low : 0x7F < b = omega arith in
       number-no _ _ _ (lt-leb _ _ low) ∙ number-no _ _ _ (lt-leb _ _ h) ∙ number-yes _ _ _ (le-leb _ _ k)
 
@@ -51,7 +51,7 @@ module _ (b one two three four : ℕ) where
 
 module _ (x : ℕ) (s : List ℕ) where
   abbrev Back : Type 0
-  Back = (front (bytes_of x ++ s) ≡ x) × (behind (bytes_of x ++ s) ≡ s)
+  Back = (front (bytesOf x ++ s) ≡ x) × (behind (bytesOf x ++ s) ≡ s)
 
   back-two : 0x7F < x → x ≤ 0x7FF → Back
   back-two h k =
@@ -59,7 +59,7 @@ module _ (x : ℕ) (s : List ℕ) where
       let low : 0x7F < 0xC0 + x / 64 = omega arith in
       let high : 0xC0 + x / 64 ≤ 0xDF = omega arith in
       let v : (0xC0 + x / 64) * 64 + (0x80 + x % 64) - 0x3080 ≡ x = omega arith in
-      rw (bytes-two x h k) (first_two _ _ _ _ _ low high ∙ v, ap (λ (n : ℕ). drop n l) (first_two _ 1 2 3 4 low high))
+      rw (bytes-two x h k) (first-two _ _ _ _ _ low high ∙ v, ap (λ (n : ℕ). drop n l) (first-two _ 1 2 3 4 low high))
 
   back-three : 0x7FF < x → x ≤ 0xFFFF → Back
   back-three h k =
@@ -67,7 +67,7 @@ module _ (x : ℕ) (s : List ℕ) where
       let low : 0xDF < 0xE0 + x / 4096 = omega arith in
       let high : 0xE0 + x / 4096 ≤ 0xEF = omega arith in
       let v : (0xE0 + x / 4096) * 4096 + (0x80 + x / 64 % 64) * 64 + (0x80 + x % 64) - 0xE2080 ≡ x = omega arith in
-      rw (bytes-three x h k) (first_three _ _ _ _ _ low high ∙ v, ap (λ (n : ℕ). drop n l) (first_three _ 1 2 3 4 low high))
+      rw (bytes-three x h k) (first-three _ _ _ _ _ low high ∙ v, ap (λ (n : ℕ). drop n l) (first-three _ 1 2 3 4 low high))
 
   back-four : 0xFFFF < x → Back
   back-four h =
@@ -78,21 +78,21 @@ module _ (x : ℕ) (s : List ℕ) where
       let v : (0xF0 + x / 262144) * 262144 + (0x80 + x / 4096 % 64) * 4096 + (0x80 + x / 64 % 64) * 64 + (0x80 + x % 64) - 0x3C82080 ≡ x = omega arith in
       rw (bytes-four x h) (first-four _ _ _ _ _ low ∙ v, ap (λ (n : ℕ). drop n l) (first-four _ 1 2 3 4 low))
 
-  by_size : Dec (x ≤ 0x7F) → Dec (x ≤ 0x7FF) → Dec (x ≤ 0xFFFF) → Back
-  by_size (yes h) q r = rw (bytes_one x h) (first_one _ _ _ _ _ h, ap (λ (n : ℕ). drop n (x ∷ s)) (first_one _ 1 2 3 4 h))
-  by_size (no h) (yes k) r = back-two (omega arith) k
-  by_size (no h) (no k) (yes l) = back-three (omega arith) l
-  by_size (no h) (no k) (no l) = back-four (omega arith)
+  by-size : Dec (x ≤ 0x7F) → Dec (x ≤ 0x7FF) → Dec (x ≤ 0xFFFF) → Back
+  by-size (yes h) q r = rw (bytes-one x h) (first-one _ _ _ _ _ h, ap (λ (n : ℕ). drop n (x ∷ s)) (first-one _ 1 2 3 4 h))
+  by-size (no h) (yes k) r = back-two (omega arith) k
+  by-size (no h) (no k) (yes l) = back-three (omega arith) l
+  by-size (no h) (no k) (no l) = back-four (omega arith)
 
   back : Back
-  back = by_size (dec_le x 0x7F) (dec_le x 0x7FF) (dec_le x 0xFFFF)
+  back = by-size (dec_le x 0x7F) (dec_le x 0x7FF) (dec_le x 0xFFFF)
 
 -- a code point has at least one byte
-pub bytes-some : (x : ℕ) → 0 < length (bytes_of x)
+pub bytes-some : (x : ℕ) → 0 < length (bytesOf x)
 bytes-some x = by-size' (dec_le x 0x7F) (dec_le x 0x7FF) (dec_le x 0xFFFF)
   where
-    by-size' : Dec (x ≤ 0x7F) → Dec (x ≤ 0x7FF) → Dec (x ≤ 0xFFFF) → 0 < length (bytes_of x)
-    by-size' (yes h) q r = rw (bytes_one x h) (omega arith)
+    by-size' : Dec (x ≤ 0x7F) → Dec (x ≤ 0x7FF) → Dec (x ≤ 0xFFFF) → 0 < length (bytesOf x)
+    by-size' (yes h) q r = rw (bytes-one x h) (omega arith)
     by-size' (no h) (yes k) r = rw (bytes-two x (omega arith) k) (omega arith)
     by-size' (no h) (no k) (yes l) = rw (bytes-three x (omega arith) l) (omega arith)
     by-size' (no h) (no k) (no l) = rw (bytes-four x (omega arith)) (omega arith)
@@ -100,14 +100,14 @@ bytes-some x = by-size' (dec_le x 0x7F) (dec_le x 0x7FF) (dec_le x 0xFFFF)
 -- a text has at least as many bytes as code points
 pub fewer : (s : List ℕ) → length s ≤ length (encode s)
 fewer [] = omega arith
-fewer (x ∷ s) = omega (arith, ap length (encode-cons x s), length-append (bytes_of x) (encode s), bytes-some x, fewer s)
+fewer (x ∷ s) = omega (arith, ap length (encode-cons x s), length-append (bytesOf x) (encode s), bytes-some x, fewer s)
 
 cons-not-nil : (x : ℕ) (s : List ℕ) → encode (x ∷ s) ≡ encode [] → ⊥
 cons-not-nil x s e =
-    omega (arith, bytes-some x, length-append (bytes_of x) (encode s), ap length (sym (encode-cons x s) ∙ e ∙ encode-nil))
+    omega (arith, bytes-some x, length-append (bytesOf x) (encode s), ap length (sym (encode-cons x s) ∙ e ∙ encode-nil))
 
 -- what stands before and behind two equal beginnings is equal
-parted : (x y : ℕ) (s u : List ℕ) → bytes_of x ++ s ≡ bytes_of y ++ u → (x ≡ y) × (s ≡ u)
+parted : (x y : ℕ) (s u : List ℕ) → bytesOf x ++ s ≡ bytesOf y ++ u → (x ≡ y) × (s ≡ u)
 parted x y s u f = (sym (back x s).0 ∙ ap front f ∙ (back y u).0, sym (back x s).1 ∙ ap behind f ∙ (back y u).1)
 
 -- the bytes of a text are those of no other text
@@ -120,8 +120,8 @@ encode-one-to-one (x ∷ s) (y ∷ u) e =
     ap₂ ◌∷◌ p.0 (encode-one-to-one s u p.1)
 
 -- so bytes are the same where the texts are
-pub same_bytes : (s u : List ℕ) → same (encode s) (encode u) ≡ same s u
-same_bytes s u =
+pub same-bytes : (s u : List ℕ) → same (encode s) (encode u) ≡ same s u
+same-bytes s u =
     either (same s u)
     (λ e. let f = same-equal s u (true-passes (same s u) e) in ap (λ (v : List ℕ). same (encode s) (encode v)) (sym f) ∙ same-itself (encode s) ∙ sym e)
     (λ e.
@@ -135,11 +135,11 @@ begun : (p s r : List ℕ) → encode s ≡ encode p ++ r → begins p s ≡ tru
 unfolding begins
 begun [] s r e = refl
 begun (a ∷ p) [] r e =
-    absurd (omega (arith, bytes-some a, length-append (bytes_of a) (encode p), length-append (encode (a ∷ p)) r, ap length (encode-cons a p), ap length (sym encode-nil ∙ e)))
+    absurd (omega (arith, bytes-some a, length-append (bytesOf a) (encode p), length-append (encode (a ∷ p)) r, ap length (encode-cons a p), ap length (sym encode-nil ∙ e)))
 begun (a ∷ p) (x ∷ s) r e =
-    let f : bytes_of x ++ encode s ≡ bytes_of a ++ (encode p ++ r) = sym (encode-cons x s) ∙ e ∙ ap (λ (l : List ℕ). l ++ r) (encode-cons a p) ∙ append_assoc (bytes_of a) (encode p) r in
+    let f : bytesOf x ++ encode s ≡ bytesOf a ++ (encode p ++ r) = sym (encode-cons x s) ∙ e ∙ ap (λ (l : List ℕ). l ++ r) (encode-cons a p) ∙ append_assoc (bytesOf a) (encode p) r in
     let q = parted x a (encode s) (encode p ++ r) f in
-    and_yes (eqb x a) (begins p s) (eq-eqb x a q.0) ∙ begun p s r q.1
+    and-yes (eqb x a) (begins p s) (eq-eqb x a q.0) ∙ begun p s r q.1
 
 pub begins-bytes : (p s : List ℕ) → begins (encode p) (encode s) ≡ begins p s
 begins-bytes p s =

@@ -41,9 +41,9 @@ abbrev pub further : ℕ → Option ℕ → Option ℕ
 further n none = none
 further n (some k) = some (n + k)
 
-abbrev pub or_else : Option ℕ → Option ℕ → Option ℕ
-or_else none o = o
-or_else (some k) o = some k
+abbrev pub orElse : Option ℕ → Option ℕ → Option ℕ
+orElse none o = o
+orElse (some k) o = some k
 
 -- "each at its first place"
 unfoldable pub firstPlace : List String → List ℕ → Option ℕ
@@ -53,24 +53,24 @@ firstPlace p (x ∷ s) = let later : Option ℕ = further 1 (firstPlace p s) in 
 -- "The search ends at the first pattern found"
 unfoldable pub searched : List (List String × ℕ) → List ℕ → Option ℕ
 searched [] s = none
-searched (p ∷ ps) s = let later : Option ℕ = searched ps s in or_else (further p.1 (firstPlace p.0 s)) later
+searched (p ∷ ps) s = let later : Option ℕ = searched ps s in orElse (further p.1 (firstPlace p.0 s)) later
 
 -- the place of the tone letter, in code points
 unfoldable pub toneLetter : List ℕ → Option ℕ
 toneLetter s = searched patterns s
 
-abbrev pub is_some : Option ℕ → Bool
-is_some none = false
-is_some (some k) = true
+abbrev pub isSome : Option ℕ → Bool
+isSome none = false
+isSome (some k) = true
 
 -- "`has_tone_letter` applies it to the NFD"
 unfoldable pub hasToneLetter : Table → List ℕ → Bool
-hasToneLetter t s = is_some (toneLetter (nfd t s))
+hasToneLetter t s = isSome (toneLetter (nfd t s))
 
 -- a place as the code has it
-abbrev pub place_of : Place → Option ℕ
-place_of (At n) = some n.0
-place_of Nowhere = none
+abbrev pub placeOf : Place → Option ℕ
+placeOf (At n) = some n.0
+placeOf Nowhere = none
 
 -- the same, of a place in bytes
 abbrev pub bytePlaceOf : BytePlace → Option ℕ

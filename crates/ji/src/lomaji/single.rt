@@ -1,7 +1,7 @@
 // A text with at most one tone mark, as a syllable has: all of it is looked at before the first byte is written, so that it needs no buffer in
 // between.
 ghost use Rattle.std.specs.Prelude.{◌≡◌, true, ◌∷◌, ◌++◌, ◌+◌, ◌/◌, ◌%◌, ◌≤◌, ◌<◌, length, take, drop};
-ghost use Rattle.ji.specs.Utf8.{bytes_of};
+ghost use Rattle.ji.specs.Utf8.{bytesOf};
 ghost use Rattle.ji.specs.Tone.{toneNumber};
 ghost use Rattle.ji.specs.Reply.{placed};
 ghost use Rattle.ji.specs.Lomaji.Strip.{markTone, stripReply};
@@ -16,7 +16,7 @@ use crate::unicode::ByteLen;
 // Whether U+0358 stands at `i`.
 fn is_dot(s: &[u8], i: usize) -> bool
     requires { i < length s.now }
-    ensures { result ≡ true → (i + 2 ≤ length s.now) × (drop i s.now ≡ bytes_of 0x0358 ++ drop (i + 2) s.now) }
+    ensures { result ≡ true → (i + 2 ≤ length s.now) × (drop i s.now ≡ bytesOf 0x0358 ++ drop (i + 2) s.now) }
 {
     if i + 1 < s.len() {
         if s[i] == 0xCD {
@@ -29,7 +29,7 @@ fn is_dot(s: &[u8], i: usize) -> bool
 // Whether ⁿ stands at `i`.
 fn is_nasal(s: &[u8], i: usize) -> bool
     requires { i < length s.now }
-    ensures { result ≡ true → (i + 3 ≤ length s.now) × (drop i s.now ≡ bytes_of 0x207F ++ drop (i + 3) s.now) }
+    ensures { result ≡ true → (i + 3 ≤ length s.now) × (drop i s.now ≡ bytesOf 0x207F ++ drop (i + 3) s.now) }
 {
     if i + 2 < s.len() {
         if s[i] == 0xE2 {

@@ -3,7 +3,7 @@ ghost use Rattle.std.specs.Prelude.{◌≡◌, [], ◌∷◌, ◌*◌, ◌/◌, 
 ghost use Rattle.ucd.specs.Table.{listed};
 ghost use Rattle.ji.specs.Text.{points, point, lower};
 ghost use Rattle.ucd.specs.Unicode16.{unicode16};
-ghost use Rattle.ji.specs.Lomaji.ToneLetter.{patterns, matches, searched, toneLetter, place_of, bytePlaceOf, is_some, letterAt, toneLetterCall, toneLetterReply, hasLetterReply, hasToneLetterCall, hasToneLetterReply};
+ghost use Rattle.ji.specs.Lomaji.ToneLetter.{patterns, matches, searched, toneLetter, placeOf, bytePlaceOf, isSome, letterAt, toneLetterCall, toneLetterReply, hasLetterReply, hasToneLetterCall, hasToneLetterReply};
 
 use crate::reply::Refusal;
 use crate::unicode::{ByteLen, CharLen, Decoded};
@@ -156,7 +156,7 @@ fn first_tried(s: &[u16]) -> usize
 
 // The place of the tone letter: the first pattern that occurs, at its first place. Finding it ends the search over both.
 pub fn tone_position(s: &[u16]) -> Place
-    ensures { place_of result ≡ toneLetter s.now }
+    ensures { placeOf result ≡ toneLetter s.now }
 {
     let mut place = Place::Nowhere;
     let mut k = first_tried(s);
@@ -269,7 +269,7 @@ fn is_single(x: u16) -> bool
 
 // Whether `s` has a tone letter: each pattern begins with a letter that is a pattern by itself, so that it does if it has one of these.
 pub fn holds_letter(s: &[u16]) -> bool
-    ensures { result ≡ is_some (toneLetter s.now) }
+    ensures { result ≡ isSome (toneLetter s.now) }
 {
     let mut i: usize = 0;
     while i < s.len() {
@@ -352,7 +352,7 @@ pub fn has_tone_letter(text: &[u8]) -> HasToneLetter
 }
 
 fn has_letter(s: &[u16]) -> HasToneLetter
-    ensures { hasToneLetterReply result ≡ hasLetterReply (is_some (toneLetter s.now)) }
+    ensures { hasToneLetterReply result ≡ hasLetterReply (isSome (toneLetter s.now)) }
 {
     if holds_letter(s) {
         HasToneLetter::Yes

@@ -16,21 +16,21 @@ use Rattle.ji.specs.Utf8.{decode, encode, lastStart, lastPoint}
 use Rattle.ji.specs.Reply.{good, checkPoints}
 use Rattle.ji.specs.Tone.{isTone, pickTone}
 use Rattle.ji.specs.Lomaji.Strip.{endsInAny, stopEndings, unmarkedTone, strip}
-use Rattle.ji.specs.Lomaji.ToneLetter.{toneLetter, is_some, hasToneLetter}
+use Rattle.ji.specs.Lomaji.ToneLetter.{toneLetter, isSome, hasToneLetter}
 use Rattle.ji.specs.declared.tone.Tone.{Tone}
 use Rattle.ji.specs.declared.tone.Tone.TheVariants.{None, T1, T4}
 use Rattle.ji.specs.declared.lomaji.khin.Khin.TheVariants.{No}
 use Rattle.ji.specs.Lomaji.Keys.{respell}
-use Rattle.ji.proofs.Bools.{either, and_yes, and_no, and-true, and-false, and_left, and_right, or_no}
-use Rattle.ji.proofs.unicode.Bytes.{bytes_one, encode-nil, encode-cons, encode-append, last-skip, front_bytes}
+use Rattle.ji.proofs.Bools.{either, and-yes, and-no, and-true, and-false, and-left, and-right, or-no}
+use Rattle.ji.proofs.unicode.Bytes.{bytes-one, encode-nil, encode-cons, encode-append, last-skip, front-bytes}
 use Rattle.ji.proofs.unicode.Checked.{Passed, points-passed, last-back}
 use Rattle.ji.proofs.unicode.Ascii.{ascii-at}
 use Rattle.ji.proofs.lomaji.strip.Ascii.{ascii-stripped, ascii-tone}
 use Rattle.ji.proofs.lomaji.tone_letter.Marks.{letter-stripped}
 use Rattle.ji.proofs.text.Laws.{drop-next, replace-nil, replace-hit, replace-miss, replace-short, replacePoints, points-first, points-second, points-other}
 use Rattle.khiin.specs.Syllable.{compose}
-use Rattle.khiin.specs.Converter.{keyToTone, toneToKey, ends_with, repeatsTone, opensNasal, opensDot, opensO, opensU, eLike, grown, nasalSigns, endsInStop, sharedOr, toned, joined, bare, isFirst, composedStep, step}
-use Rattle.khiin.specs.Telex.{pickEdit, editBy, editAt, editOf, composedOf, edited, step_of}
+use Rattle.khiin.specs.Converter.{keyToTone, toneToKey, endsWith, repeatsTone, opensNasal, opensDot, opensO, opensU, eLike, grown, nasalSigns, endsInStop, sharedOr, toned, joined, bare, isFirst, composedStep, step}
+use Rattle.khiin.specs.Telex.{pickEdit, editBy, editAt, editOf, composedOf, edited, stepOf}
 use Rattle.khiin.specs.declared.converter.ToneKeys.{ToneKeys}
 use Rattle.khiin.specs.declared.converter.Edit.{Edit}
 use Rattle.khiin.specs.declared.converter.Edit.TheVariants.{Behind, Last, LastTwo, Compose}
@@ -81,26 +81,26 @@ sign-gone true x s e = ap paired (n-stays (x ∷ s) ∙ ap (λ (l : List ℕ). n
 sign-gone false x s e = ap paired e
 
 -- an n is held, or goes with the one that is
-n_held : (h : Bool) (x : ℕ) (s : List ℕ) → x ≡ n → unsigned (held h ++ (x ∷ s)) ≡ unsigned (held (not h) ++ s)
+n-held : (h : Bool) (x : ℕ) (s : List ℕ) → x ≡ n → unsigned (held h ++ (x ∷ s)) ≡ unsigned (held (not h) ++ s)
 unfolding begins
-n_held true x s e =
+n-held true x s e =
     ap (λ (y : ℕ). unsigned (n ∷ y ∷ s)) e
     ∙ ap paired (n-stays (n ∷ s) ∙ ap (λ (l : List ℕ). n ∷ l) (n-stays s))
     ∙ replace-hit (points "nn") [] n (n ∷ unmarked s) (omega arith) refl
-n_held false x s e = ap (λ (y : ℕ). unsigned (y ∷ s)) e
+n-held false x s e = ap (λ (y : ℕ). unsigned (y ∷ s)) e
 
 -- any other code point stays, with what is held before it
 module _ (x : ℕ) (s : List ℕ) (a : x ≡ point "ⁿ" → ⊥) (b : x ≡ point "ᴺ" → ⊥) (c : x ≡ n → ⊥) where
   alone : paired (x ∷ unmarked s) ≡ x ∷ unsigned s
   unfolding begins
-  alone = replace-miss (points "nn") [] x (unmarked s) (and_no _ _ (ne_eqb x n c))
+  alone = replace-miss (points "nn") [] x (unmarked s) (and-no _ _ (ne_eqb x n c))
 
   other-kept : (h : Bool) (stop : Bool) → stopAfter stop (unsigned (held h ++ (x ∷ s))) ≡ stopAfter (listed (points "ptkh") x) (unsigned s)
   unfolding begins stopAfter
   other-kept true stop =
       ap (stopAfter stop)
       (ap paired (n-stays (x ∷ s) ∙ ap (λ (l : List ℕ). n ∷ l) (other-stays x s a b))
-      ∙ replace-miss (points "nn") [] n (x ∷ unmarked s) (and_no _ _ (ne_eqb x n c))
+      ∙ replace-miss (points "nn") [] n (x ∷ unmarked s) (and-no _ _ (ne_eqb x n c))
       ∙ ap (λ (l : List ℕ). n ∷ l) alone)
   other-kept false stop = ap (stopAfter stop) (ap paired (other-stays x s a b) ∙ alone)
 
@@ -147,7 +147,7 @@ module _ (body : List ℕ) (stop single : Bool) (i : ℕ) (h : i < length body) 
   stop-second e = there stop single (ap (stopAfter stop) (sign-gone single x (map lower (drop (i + 1) body)) (second-gone x (map lower (drop (i + 1) body)) e)))
 
   pub stop-n : x ≡ n → stopFrom body stop single i ≡ stopFrom body stop (not single) (i + 1)
-  stop-n e = there stop (not single) (ap (stopAfter stop) (n_held single x (map lower (drop (i + 1) body)) e))
+  stop-n e = there stop (not single) (ap (stopAfter stop) (n-held single x (map lower (drop (i + 1) body)) e))
 
   pub stop-other : (x ≡ point "ⁿ" → ⊥) → (x ≡ point "ᴺ" → ⊥) → (x ≡ n → ⊥) → (r : Bool) → r ≡ listed (points "ptkh") x → stopFrom body stop single i ≡ stopFrom body r false (i + 1)
   stop-other a b c r e =
@@ -167,8 +167,8 @@ stop-none stop = refl
 
 -- ── how a text ends
 -- an ending that is as short as the rest of a text is an ending of the rest
-ends-skip : (e s : List ℕ) (x : ℕ) → length e ≤ length s → ends_with e (x ∷ s) ≡ ends_with e s
-unfolding ends_with
+ends-skip : (e s : List ℕ) (x : ℕ) → length e ≤ length s → endsWith e (x ∷ s) ≡ endsWith e s
+unfolding endsWith
 ends-skip e s x h =
     ap (λ (k : ℕ). same (drop k (x ∷ s)) e) (let z : suc (length s) - length e ≡ suc (length s - length e) = omega arith in z)
 
@@ -184,15 +184,15 @@ last-but-skip x y z s =
     ∙ ap last (sym (but-skip y z s))
 
 -- one code point, and two
-ends-one : (a : ℕ) → (0 ≡ a → ⊥) → (s : List ℕ) → ends_with (a ∷ []) s ≡ eqb (last s) a
-unfolding ends_with last same
+ends-one : (a : ℕ) → (0 ≡ a → ⊥) → (s : List ℕ) → endsWith (a ∷ []) s ≡ eqb (last s) a
+unfolding endsWith last same
 ends-one a h [] = sym (ne_eqb 0 a h)
 ends-one a h (x ∷ []) = and-true (eqb x a)
 ends-one a h (x ∷ (y ∷ s)) = ends-skip (a ∷ []) (y ∷ s) x (omega arith) ∙ ends-one a h (y ∷ s) ∙ ap (λ (z : ℕ). eqb z a) (sym (last-skip x y s))
 
-ends-two : (a b : ℕ) → (0 ≡ a → ⊥) → (0 ≡ b → ⊥) → (s : List ℕ) → ends_with (a ∷ b ∷ []) s ≡ (eqb (last s) b && eqb (last (butLast 1 s)) a)
-unfolding ends_with last butLast same
-ends-two a b h g [] = sym (and_no _ _ (ne_eqb 0 b g))
+ends-two : (a b : ℕ) → (0 ≡ a → ⊥) → (0 ≡ b → ⊥) → (s : List ℕ) → endsWith (a ∷ b ∷ []) s ≡ (eqb (last s) b && eqb (last (butLast 1 s)) a)
+unfolding endsWith last butLast same
+ends-two a b h g [] = sym (and-no _ _ (ne_eqb 0 b g))
 ends-two a b h g (x ∷ []) = and-false (eqb x a) ∙ sym (ap (λ (t : Bool). eqb x b && t) (ne_eqb 0 a h) ∙ and-false (eqb x b))
 ends-two a b h g (x ∷ (y ∷ [])) = ap (λ (t : Bool). eqb x a && t) (and-true (eqb y b)) ∙ and-swap (eqb x a) (eqb y b)
   where
@@ -217,9 +217,9 @@ lower-o x = by-letter (ℕ_discrete x (point "o")) (ℕ_discrete x (point "O"))
     by-letter (yes e) d = rw e
     by-letter (no p) (yes e) = rw e
     by-letter (no p) (no q) =
-        or_no _ _ (ne_eqb x (point "o") p) ∙ ne_eqb x (point "O") q ∙ sym (ne_eqb (lower x) (point "o") (neither p q (within (point "A") (point "Z") x) refl))
+        or-no _ _ (ne_eqb x (point "o") p) ∙ ne_eqb x (point "O") q ∙ sym (ne_eqb (lower x) (point "o") (neither p q (within (point "A") (point "Z") x) refl))
 
-ends-o : (mark : ℕ) → (0 ≡ mark → ⊥) → (s : List ℕ) → (ends_with (marked "o" mark) s || ends_with (marked "O" mark) s) ≡ (eqb (last s) mark && eqb (lower (last (butLast 1 s))) (point "o"))
+ends-o : (mark : ℕ) → (0 ≡ mark → ⊥) → (s : List ℕ) → (endsWith (marked "o" mark) s || endsWith (marked "O" mark) s) ≡ (eqb (last s) mark && eqb (lower (last (butLast 1 s))) (point "o"))
 ends-o mark h s =
     ap₂ (λ (p q : Bool). p || q) (ends-two (point "o") mark (λ e. omega arith) h s) (ends-two (point "O") mark (λ e. omega arith) h s)
     ∙ shared (eqb (last s) mark) (eqb (last (butLast 1 s)) (point "o")) (eqb (last (butLast 1 s)) (point "O"))
@@ -240,15 +240,15 @@ module _ (key : ℕ) (given : List ℕ) where
   abbrev end : ℕ
   end = last given
 
-  either_end : (a b : ℕ) → (0 ≡ a → ⊥) → (0 ≡ b → ⊥) → (ends_with (a ∷ []) given || ends_with (b ∷ []) given) ≡ (eqb end a || eqb end b)
-  either_end a b h g = ap₂ (λ (p q : Bool). p || q) (ends-one a h given) (ends-one b g given)
+  either-end : (a b : ℕ) → (0 ≡ a → ⊥) → (0 ≡ b → ⊥) → (endsWith (a ∷ []) given || endsWith (b ∷ []) given) ≡ (eqb end a || eqb end b)
+  either-end a b h g = ap₂ (λ (p q : Bool). p || q) (ends-one a h given) (ends-one b g given)
 
   pub edit-at : editAt key given ≡ editBy low before end
   unfolding editAt editBy opensNasal opensDot opensO opensU
   edit-at =
       rw (
-        either_end (point "ⁿ") (point "ᴺ") (λ e. omega arith) (λ e. omega arith),
-        either_end 0x1E73 0x1E72 (λ e. omega arith) (λ e. omega arith),
+        either-end (point "ⁿ") (point "ᴺ") (λ e. omega arith) (λ e. omega arith),
+        either-end 0x1E73 0x1E72 (λ e. omega arith) (λ e. omega arith),
         ends-o 0x0358 (λ e. omega arith) given,
         ends-o 0x0324 (λ e. omega arith) given,
       )
@@ -264,27 +264,27 @@ unfolding members
 members-take zero s h = refl
 members-take (suc n) [] h = refl
 members-take (suc n) (x ∷ s) h =
-    and_yes _ _ (and_left (member unicode16 x) (members unicode16 s) h) ∙ members-take n s (and_right (member unicode16 x) (members unicode16 s) h)
+    and-yes _ _ (and-left (member unicode16 x) (members unicode16 s) h) ∙ members-take n s (and-right (member unicode16 x) (members unicode16 s) h)
 
 module _ (key : ℕ) (given text : List ℕ) (is : checkPoints unicode16 (decode text) ≡ good given) where
   passed : Passed unicode16 (length text) text given
   passed = points-passed text given is
 
-  end_read : lastPoint text ≡ last given
-  end_read = ap lastPoint (sym passed.written) ∙ last-back given passed.inside
+  end-read : lastPoint text ≡ last given
+  end-read = ap lastPoint (sym passed.written) ∙ last-back given passed.inside
 
   before-read : lastPoint (take (lastStart text) text) ≡ last (butLast 1 given)
   unfolding butLast
   before-read =
       ap (λ (l : List ℕ). lastPoint (take (lastStart l) l)) (sym passed.written)
-      ∙ ap lastPoint (front_bytes given)
+      ∙ ap lastPoint (front-bytes given)
       ∙ last-back (butLast 1 given) (members-take (length given - 1) given passed.inside)
 
   pub edit-read : {low n b before end : ℕ} → low ≡ lower key → n ≡ lastStart text → b ≡ lastPoint (take (n - 0) text) → before ≡ lower b → end ≡ lastPoint text → editBy low before end ≡ editAt key given
   edit-read {end = end} el en eb ebefore eend =
       let b-is = eb ∙ ap (λ (m : ℕ). lastPoint (take m text)) (sub-zero _ ∙ en) ∙ before-read in
       ap₂ (λ (x y : ℕ). editBy x y end) el (ebefore ∙ ap lower b-is)
-      ∙ ap (editBy (lower key) (lower (last (butLast 1 given)))) (eend ∙ end_read)
+      ∙ ap (editBy (lower key) (lower (last (butLast 1 given)))) (eend ∙ end-read)
       ∙ sym (edit-at key given)
 
 module _ (k : ToneKeys) (key : ℕ) (tone : Tone) (given : List ℕ) where
@@ -298,7 +298,7 @@ module _ (k : ToneKeys) (key : ℕ) (tone : Tone) (given : List ℕ) where
 
 -- ── the step, by its branch
 module _ (t : Table) (k : ToneKeys) (key : ℕ) (given : List ℕ) (tone : Tone) (rest : List ℕ) where
-  composed-is : is_some (toneLetter rest) ≡ hasToneLetter t given → composedStep t k key given tone rest ≡ composedOf t k key tone rest
+  composed-is : isSome (toneLetter rest) ≡ hasToneLetter t given → composedStep t k key given tone rest ≡ composedOf t k key tone rest
   unfolding composedStep composedOf
   composed-is e =
       ap (λ (b : Bool). pickText (not (isFirst tone) || b) (pickText (isTone (keyToTone k (lower key))) (toned t k key rest) (joined t k key tone rest)) (bare t key rest)) (sym e)
@@ -313,9 +313,9 @@ module _ (t : Table) (k : ToneKeys) (key : ℕ) (given : List ℕ) (tone : Tone)
   by-branch false false false false true c e = refl
   by-branch false false false false false c e = e
 
-  pub step_is : is_some (toneLetter rest) ≡ hasToneLetter t given → step t k key given tone rest ≡ edited t k (editOf k key tone given) key tone rest
+  pub step-is : isSome (toneLetter rest) ≡ hasToneLetter t given → step t k key given tone rest ≡ edited t k (editOf k key tone given) key tone rest
   unfolding step editOf editAt
-  step_is e =
+  step-is e =
       by-branch (repeatsTone k key tone) (opensNasal key given) (opensDot key given) (opensO key given) (opensU key given) (composedStep t k key given tone rest) (composed-is e)
 
 -- ── when each branch applies, in their order
@@ -364,9 +364,9 @@ module _ (t : Table) (k : ToneKeys) (key : ℕ) (given : List ℕ) (tone : Tone)
 
 -- ── an ASCII text takes none of the branches before the last
 module _ (low before end : ℕ) (h : end ≤ 0x7F) where
-  low_end : editBy low before end ≡ Compose
+  low-end : editBy low before end ≡ Compose
   unfolding editBy
-  low_end =
+  low-end =
       rw (
         ne_eqb end (point "ⁿ") (λ e. omega arith),
         ne_eqb end (point "ᴺ") (λ e. omega arith),
@@ -394,19 +394,19 @@ module _ (k : ToneKeys) (key : ℕ) (s : List ℕ) (h : allAscii s ≡ true) whe
   ascii-edit =
       sym (edit-else k key (unmarkedTone s) s ascii-repeats)
       ∙ edit-at key s
-      ∙ low_end (lower key) (lower (last (butLast 1 s))) (last s) (ascii-at s (length s - 1) h)
+      ∙ low-end (lower key) (lower (last (butLast 1 s))) (last s) (ascii-at s (length s - 1) h)
 
-  pub ascii-step : step_of unicode16 k key s ≡ composedOf unicode16 k key (unmarkedTone s) s
-  unfolding step_of
+  pub ascii-step : stepOf unicode16 k key s ≡ composedOf unicode16 k key (unmarkedTone s) s
+  unfolding stepOf
   ascii-step =
-      step_is unicode16 k key s (strip unicode16 s).tone (strip unicode16 s).rest (letter-stripped unicode16 s)
+      step-is unicode16 k key s (strip unicode16 s).tone (strip unicode16 s).rest (letter-stripped unicode16 s)
       ∙ ap₂ (λ (o : Tone) (r : List ℕ). edited unicode16 k (editOf k key o s) key o r) (ascii-tone s h) (ascii-stripped s h)
       ∙ ap (λ (e : Edit). edited unicode16 k e key (unmarkedTone s) s) ascii-edit
 
 -- ── composing
 module _ (t : Table) (k : ToneKeys) (key : ℕ) (tone : Tone) (rest : List ℕ) where
   abbrev takes : Bool
-  takes = not (isFirst tone) || is_some (toneLetter rest)
+  takes = not (isFirst tone) || isSome (toneLetter rest)
 
   abbrev typed : Bool → Bool → List ℕ
   typed b c = pickText b (pickText c (toned t k key rest) (joined t k key tone rest)) (bare t key rest)
@@ -447,9 +447,9 @@ but-two s =
 -- the bytes of a text and of an ASCII key behind it
 pub key-behind : (rest : List ℕ) (key : ℕ) → key ≤ 0x7F → encode rest ++ (key ∷ []) ≡ encode (rest ++ (key ∷ []))
 key-behind rest key h =
-    sym (encode-append rest (key ∷ []) ∙ ap (λ (l : List ℕ). encode rest ++ l) (encode-cons key [] ∙ ap₂ ◌++◌ (bytes_one key h) encode-nil))
+    sym (encode-append rest (key ∷ []) ∙ ap (λ (l : List ℕ). encode rest ++ l) (encode-cons key [] ∙ ap₂ ◌++◌ (bytes-one key h) encode-nil))
 
 -- the bytes that are left before the last code point
 pub cut-bytes : (bytes rest : List ℕ) (n r : ℕ) → take n bytes ≡ encode rest → r ≡ lastStart (take n bytes) → r ≤ n → take r bytes ≡ encode (butLast 1 rest)
 cut-bytes bytes rest n r e f h =
-    sym (take-take r n bytes h) ∙ ap₂ take (f ∙ ap lastStart e) e ∙ front_bytes rest
+    sym (take-take r n bytes h) ∙ ap₂ take (f ∙ ap lastStart e) e ∙ front-bytes rest

@@ -2,13 +2,13 @@
 // compose's encoding. Most bodies have one pair of vowels at most, and a sign at their end only: for these each rule is one look.
 ghost use Rattle.std.specs.Prelude.{◌≡◌, true, false, ◌&&◌, List, [], ◌∷◌, ◌++◌, ℕ, ◌+◌, ◌-◌, ◌*◌, ◌/◌, ◌≤◌, ◌<◌, length, take, drop, get_or};
 ghost use Rattle.ji.specs.Unicode.{unicode16, listed};
-ghost use Rattle.ji.specs.Text.{points as points_of, marked, begins, replaceAll};
+ghost use Rattle.ji.specs.Text.{points as pointsOf, marked, begins, replaceAll};
 ghost use Rattle.ji.specs.Utf8.{encode};
 ghost use Rattle.ji.specs.Written.{Written};
 ghost use Rattle.ji.specs.Reply.{placed, textReply, good, checkText};
 ghost use Rattle.ji.specs.Lomaji.Keys.{respell};
 ghost use Rattle.khiin.specs.Syllable.{vowelRules, nasalRules, oRules, endsNasal, nasalised, moved, spelled, khinText, compose, composeOf, composeCall};
-ghost use Rattle.khiin.specs.Compose.{answer_of, Front, isPair, apartFrom, oPairs, ePairs, takesDot, NoPairIn, NoNasalBefore, NoSignBefore, settledBody, SettledAs, DotAt};
+ghost use Rattle.khiin.specs.Compose.{answerOf, Front, isPair, apartFrom, oPairs, ePairs, takesDot, NoPairIn, NoNasalBefore, NoSignBefore, settledBody, SettledAs, DotAt};
 
 use crate::syllable::letters::{is_first, is_second};
 use crate::syllable::marking::{answer, insert_mark, place_spelled};
@@ -64,7 +64,7 @@ fn next_pair(s: &[u16], from: usize) -> usize
 // Whether the pair at `at`, the first, is the only one, and no o or e stands before it, which what becomes of it might be a pair with.
 fn is_alone(s: &[u16], at: usize) -> bool
     requires { at < length s.now }
-    ensures { result ≡ true → NoPairIn (at + 1) (length s.now) s.now × (0 < at → listed (points_of "oOeE") (get_or s.now (at - 1) 0) ≡ false) }
+    ensures { result ≡ true → NoPairIn (at + 1) (length s.now) s.now × (0 < at → listed (pointsOf "oOeE") (get_or s.now (at - 1) 0) ≡ false) }
 {
     if next_pair(s, at + 1) < s.len() {
         return false;
@@ -77,7 +77,7 @@ fn is_alone(s: &[u16], at: usize) -> bool
 
 // Replaces the pair at `at`: the vowel behind o gives way to U+0358; that behind e takes its place, with U+0324. 4F is O, 6F is o.
 fn respell_one(s: &mut [u16], at: usize)
-    requires { (at + 1 < length s.old) × (isPair (drop at s.old) ≡ true) × NoPairIn 0 at s.old × NoPairIn (at + 1) (length s.old) s.old × (0 < at → listed (points_of "oOeE") (get_or s.old (at - 1) 0) ≡ false) }
+    requires { (at + 1 < length s.old) × (isPair (drop at s.old) ≡ true) × NoPairIn 0 at s.old × NoPairIn (at + 1) (length s.old) s.old × (0 < at → listed (pointsOf "oOeE") (get_or s.old (at - 1) 0) ≡ false) }
     ensures { s.new ≡ respell vowelRules s.old }
 {
     match s[at] {
@@ -512,7 +512,7 @@ fn write_whole(khin: Khin, s: &[u16], out: &mut [u16]) -> usize
 // Writes the text of a body that is spelled but for the O rules, from a buffer with room for these and for khin.
 fn place_dotted(raw: &[u8], s: &[u16], tone: Tone, khin: Khin, out: &mut [u8]) -> usize
     requires { length s.now ≤ 400 }
-    ensures { (rawInput body : List ℕ) → raw.now ≡ encode rawInput → settledBody body ≡ s.now → textReply (answer_of result) out.new ≡ placed 0 (encode (compose unicode16 rawInput body tone khin)) out.old }
+    ensures { (rawInput body : List ℕ) → raw.now ≡ encode rawInput → settledBody body ≡ s.now → textReply (answerOf result) out.new ≡ placed 0 (encode (compose unicode16 rawInput body tone khin)) out.old }
 {
     let mut b = [0u16; 803];
     let n = write_whole(khin, s, &mut b);
@@ -529,7 +529,7 @@ fn place_settled(
     out: &mut [u8],
 ) -> usize
     requires { (settled.len ≤ 400) × (settled.len + 1 < length s.old) × (settled.lone ≡ true → NoSignBefore (take settled.len s.old)) }
-    ensures { (rawInput body : List ℕ) → raw.now ≡ encode rawInput → settledBody body ≡ take settled.len s.old → textReply (answer_of result) out.new ≡ placed 0 (encode (compose unicode16 rawInput body tone khin)) out.old }
+    ensures { (rawInput body : List ℕ) → raw.now ≡ encode rawInput → settledBody body ≡ take settled.len s.old → textReply (answerOf result) out.new ≡ placed 0 (encode (compose unicode16 rawInput body tone khin)) out.old }
 {
     let n = settled.len;
     match khin {
@@ -554,7 +554,7 @@ pub(crate) fn compose_points(
     out: &mut [u8],
 ) -> usize
     requires { (n ≤ 400) × (n + 1 < length s.old) }
-    ensures { (rawInput : List ℕ) → raw.now ≡ encode rawInput → textReply (answer_of result) out.new ≡ placed 0 (encode (compose unicode16 rawInput (take n s.old) tone khin)) out.old }
+    ensures { (rawInput : List ℕ) → raw.now ≡ encode rawInput → textReply (answerOf result) out.new ≡ placed 0 (encode (compose unicode16 rawInput (take n s.old) tone khin)) out.old }
 {
     let settled = settle(&mut s[0..n]);
     place_settled(raw, s, settled, tone, khin, out)

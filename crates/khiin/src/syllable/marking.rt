@@ -2,11 +2,11 @@
 // and the mark give way to their composite, or stand beside each other.
 ghost use Rattle.std.specs.Prelude.{◌≡◌, true, List, ◌∷◌, ◌++◌, ℕ, ◌+◌, ◌*◌, ◌≤◌, ◌<◌, length, take, drop, get_or};
 ghost use Rattle.ji.specs.Unicode.{unicode16, listed};
-ghost use Rattle.ji.specs.Text.{points as points_of};
-ghost use Rattle.ji.specs.Utf8.{bytes_of, encode};
+ghost use Rattle.ji.specs.Text.{points as pointsOf};
+ghost use Rattle.ji.specs.Utf8.{bytesOf, encode};
 ghost use Rattle.ji.specs.Reply.{placed, textReply};
 ghost use Rattle.khiin.specs.Syllable.{mark_of, encoded, composedWith};
-ghost use Rattle.khiin.specs.Compose.{Front, markText, answer_of, staysBehind, settledFrom, Joined, inserted};
+ghost use Rattle.khiin.specs.Compose.{Front, markText, answerOf, staysBehind, settledFrom, Joined, inserted};
 
 use ji::lomaji::tone_letter::{Place, tone_position};
 use ji::nfc::place_exchanged;
@@ -195,7 +195,7 @@ pub(crate) fn joined(x: u16, mark: u16) -> u16
 
 // Whether U+0324 makes no composite with `x`.
 fn is_o(x: u16) -> bool
-    ensures { result ≡ listed (points_of "oO") x }
+    ensures { result ≡ listed (pointsOf "oO") x }
 {
     match x {
         0x4F | 0x6F => true,
@@ -251,7 +251,7 @@ pub(crate) fn insert_mark(s: &mut [u16], k: usize, mark: u16)
 // Writes the text `s` to `out`, and returns one more than its length in bytes, or 0 where there is no room. A number is passed on at no cost, and
 // the answer that it stands for is not.
 fn place(s: &[u16], out: &mut [u8]) -> usize
-    ensures { textReply (answer_of result) out.new ≡ placed 0 (encode s.now) out.old }
+    ensures { textReply (answerOf result) out.new ≡ placed 0 (encode s.now) out.old }
 {
     match reply::place(s, out) {
         TextAnswer::Refused(_) => 0,
@@ -261,7 +261,7 @@ fn place(s: &[u16], out: &mut [u8]) -> usize
 
 // The same of the bytes `s` of a text.
 pub(crate) fn place_bytes(s: &[u8], out: &mut [u8]) -> usize
-    ensures { textReply (answer_of result) out.new ≡ placed 0 s.now out.old }
+    ensures { textReply (answerOf result) out.new ≡ placed 0 s.now out.old }
 {
     match reply::place_bytes(s, out) {
         TextAnswer::Refused(_) => 0,
@@ -271,7 +271,7 @@ pub(crate) fn place_bytes(s: &[u8], out: &mut [u8]) -> usize
 
 // The same of the bytes `before` and `after`, with the code point `x` between them.
 pub(crate) fn place_between(before: &[u8], x: u16, after: &[u8], out: &mut [u8]) -> usize
-    ensures { textReply (answer_of result) out.new ≡ placed 0 (before.now ++ (bytes_of x ++ after.now)) out.old }
+    ensures { textReply (answerOf result) out.new ≡ placed 0 (before.now ++ (bytesOf x ++ after.now)) out.old }
 {
     match reply::place_between(before, x, after, out) {
         TextAnswer::Refused(_) => 0,
@@ -281,7 +281,7 @@ pub(crate) fn place_between(before: &[u8], x: u16, after: &[u8], out: &mut [u8])
 
 // The answer that such a number stands for.
 pub(crate) fn answer(size: usize) -> TextAnswer
-    ensures { result ≡ answer_of size }
+    ensures { result ≡ answerOf size }
 {
     if size == 0 {
         return TextAnswer::Refused(Refusal::NoRoom);
@@ -292,7 +292,7 @@ pub(crate) fn answer(size: usize) -> TextAnswer
 // Writes `s` in compose's encoding to `out`: its NFC, with each U+0324 U+030D exchanged.
 fn place_encoded(s: &[u16], out: &mut [u8]) -> usize
     requires { length s.now ≤ 803 }
-    ensures { textReply (answer_of result) out.new ≡ placed 0 (encode (encoded unicode16 s.now)) out.old }
+    ensures { textReply (answerOf result) out.new ≡ placed 0 (encode (encoded unicode16 s.now)) out.old }
 {
     match place_exchanged(s, 0x0324, 0x030D, out) {
         TextAnswer::Refused(_) => 0,
@@ -303,7 +303,7 @@ fn place_encoded(s: &[u16], out: &mut [u8]) -> usize
 // Writes `s` in compose's encoding, without a mark.
 fn place_unmarked(s: &[u16], out: &mut [u8]) -> usize
     requires { length s.now ≤ 803 }
-    ensures { textReply (answer_of result) out.new ≡ placed 0 (encode (encoded unicode16 s.now)) out.old }
+    ensures { textReply (answerOf result) out.new ≡ placed 0 (encode (encoded unicode16 s.now)) out.old }
 {
     if is_settled(s) {
         return place(s, out);
@@ -325,7 +325,7 @@ fn joined_at(s: &[u16], k: usize, mark: u16) -> u16
 // Writes the first `n` code points of `s` with `mark` behind the letter at `k`.
 fn place_marked(s: &mut [u16], n: usize, k: usize, mark: u16, out: &mut [u8]) -> usize
     requires { (k < n) × (n < length s.old) × (n ≤ 802) }
-    ensures { textReply (answer_of result) out.new ≡ placed 0 (encode (encoded unicode16 (take (k + 1) (take n s.old) ++ (mark ∷ drop (k + 1) (take n s.old))))) out.old }
+    ensures { textReply (answerOf result) out.new ≡ placed 0 (encode (encoded unicode16 (take (k + 1) (take n s.old) ++ (mark ∷ drop (k + 1) (take n s.old))))) out.old }
 {
     let c = joined_at(&s[0..n], k, mark);
     if 1 < c {
@@ -352,7 +352,7 @@ pub(crate) fn place_spelled(
     out: &mut [u8],
 ) -> usize
     requires { (n < length s.old) × (n ≤ 802) }
-    ensures { (rawInput : List ℕ) → raw.now ≡ encode rawInput → textReply (answer_of result) out.new ≡ placed 0 (encode (composedWith unicode16 rawInput (take n s.old) (mark_of tone))) out.old }
+    ensures { (rawInput : List ℕ) → raw.now ≡ encode rawInput → textReply (answerOf result) out.new ≡ placed 0 (encode (composedWith unicode16 rawInput (take n s.old) (mark_of tone))) out.old }
 {
     match mark_of(tone) {
         Mark::Nothing => place_unmarked(&s[0..n], out),

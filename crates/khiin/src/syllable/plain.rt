@@ -2,7 +2,7 @@
 // letter and its mark among them. A function here returns 0, and writes nothing, where this way does not go.
 ghost use Rattle.std.specs.Prelude.{◌≡◌, true, false, ◌&&◌, List, ◌∷◌, ◌++◌, ℕ, ◌+◌, ◌<◌, length, take, drop};
 ghost use Rattle.ji.specs.Unicode.{unicode16, listed};
-ghost use Rattle.ji.specs.Text.{points as points_of, allAscii};
+ghost use Rattle.ji.specs.Text.{points as pointsOf, allAscii};
 ghost use Rattle.ji.specs.Utf8.{encode};
 ghost use Rattle.ji.specs.Reply.{placed};
 ghost use Rattle.khiin.specs.Syllable.{endsNasal, mark_of, encoded, composedWith, compose};
@@ -31,7 +31,7 @@ fn ends_in_nn(s: &[u8]) -> bool
 
 // Whether `before` and `x` are a pair of vowels that is replaced.
 fn are_pair(before: u8, x: u8) -> bool
-    ensures { result ≡ (listed (points_of "oOeE") before && listed (points_of "oOuU") x) }
+    ensures { result ≡ (listed (pointsOf "oOeE") before && listed (pointsOf "oOuU") x) }
 {
     if is_second(x as u16) {
         return is_first(before as u16);

@@ -17,11 +17,11 @@ use Rattle.ji.specs.declared.reply.Refusal.TheVariants.{Parts, Position, NoRoom}
 use Rattle.ji.specs.declared.unicode.Verdict.{Verdict}
 use Rattle.ji.specs.declared.unicode.Verdict.TheVariants.{Good, Refused}
 use Rattle.ji.specs.declared.lomaji.keys.Kind.{Kind}
-use Rattle.ji.proofs.Bools.{either, and_yes}
+use Rattle.ji.proofs.Bools.{either, and-yes}
 use Rattle.ji.proofs.unicode.Checked.{Passed, check-passed}
 use Rattle.khiin_entries.specs.KeySequence.{split, keyings, partsFit, checkParts, checkEntry, keyed, placedKeying, keyingAt, keyingOf, keyingCall}
-use Rattle.khiin_entries.specs.Choices.{points_of, allShort, part_count, Entry, choicesIn, laidOut, Laid, countIn, keyingIn, laidReply}
-use Rattle.khiin_entries.proofs.key_sequence.Splitting.{some-part, points-back, parts_are, parts-count, short-bytes}
+use Rattle.khiin_entries.specs.Choices.{pointsOf, allShort, partCount, Entry, choicesIn, laidOut, Laid, countIn, keyingIn, laidReply}
+use Rattle.khiin_entries.proofs.key_sequence.Splitting.{some-part, points-back, parts-are, parts-count, short-bytes}
 use Rattle.khiin_entries.proofs.key_sequence.Combining.{count-is, keying-is}
 use Rattle.khiin_entries.proofs.key_sequence.Product.{size, place}
 use Rattle.khiin_entries.proofs.key_sequence.Laying.{count-laid, keying-laid}
@@ -40,9 +40,9 @@ module _ (count : ℕ) (output : List ℕ) (position : ℕ) (buffer : List ℕ) 
     laid-no-room k = sym (ap (λ (b : Bool). pickReply b (keyed unicode16 count output buffer) (refused NoRoom buffer)) (lt-leb (length output) (length buffer) k)) ∙ placed-here
 
     -- the keying was written so that it ends at its length
-    pub laid_done : (n : ℕ) (after : List ℕ) → length output ≡ n → n ≤ length buffer → after ≡ paste buffer (n - n) output n
+    pub laid-done : (n : ℕ) (after : List ℕ) → length output ≡ n → n ≤ length buffer → after ≡ paste buffer (n - n) output n
         → ◌≡◌ {A = Reply} (record { code = 0; length = n; count = count; body = 0; tone = 0; khin = 0; position = 0; buffer = after }) (laidReply count output position buffer)
-    laid_done n after e k put =
+    laid-done n after e k put =
         let whole : after ≡ over output buffer = put ∙ ap (λ (m : ℕ). paste buffer m output n) (sub_self n) ∙ front n e in
         rw (whole, ← e) (sym (ap (λ (b : Bool). pickReply b (keyed unicode16 count output buffer) (refused NoRoom buffer)) (le-leb (length output) (length buffer) (rw e k))) ∙ placed-here)
       where
@@ -52,7 +52,7 @@ module _ (count : ℕ) (output : List ℕ) (position : ℕ) (buffer : List ℕ) 
 -- ── a good entry
 module _ {entry : List ℕ} {parts : ℕ} (h : Entry entry parts) (kind : Kind) (position : ℕ) (buffer : List ℕ) where
   abbrev s : List ℕ
-  s = points_of entry
+  s = pointsOf entry
 
   pub checked-good : checkEntry unicode16 entry ≡ good s
   unfolding checkEntry
@@ -60,9 +60,9 @@ module _ {entry : List ℕ} {parts : ℕ} (h : Entry entry parts) (kind : Kind) 
       let p = entry-passed h in
       let q = entry-parts h in
       let few : length (split s) ≤ 16 = omega (arith, q.0, q.1, parts-count entry s p) in
-      let short : partsFit unicode16 (split s) ≡ true = sym (short-bytes unicode16 (split s)) ∙ ap allShort (sym (parts_are entry s p)) ∙ q.2 in
+      let short : partsFit unicode16 (split s) ≡ true = sym (short-bytes unicode16 (split s)) ∙ ap allShort (sym (parts-are entry s p)) ∙ q.2 in
       ap (checkParts unicode16) h.checked
-      ∙ ap (λ (b : Bool). pickChecked b (good s) (bad Parts)) (and_yes (leb (length (split s)) 16) (partsFit unicode16 (split s)) (le-leb (length (split s)) 16 few) ∙ short)
+      ∙ ap (λ (b : Bool). pickChecked b (good s) (bad Parts)) (and-yes (leb (length (split s)) 16) (partsFit unicode16 (split s)) (le-leb (length (split s)) 16 few) ∙ short)
 
   call-good : keyingCall unicode16 entry kind position buffer ≡ keyingAt unicode16 (keyings unicode16 kind s) position buffer
   unfolding keyingCall
@@ -122,24 +122,24 @@ module _ (entry : List ℕ) (answer : Verdict) (says : answer ≡ verdictOf (che
     pub passed-short : length entry ≤ 1024
     passed-short = passed.short
 
-    text-is : points_of entry ≡ text
-    text-is = ap points_of (sym passed.written) ∙ points-back text passed.inside
+    text-is : pointsOf entry ≡ text
+    text-is = ap pointsOf (sym passed.written) ∙ points-back text passed.inside
 
-    pub entry-good : (parts : ℕ) → parts ≡ part_count entry → (parts ≡ 0 → ⊥) → Entry entry parts
+    pub entry-good : (parts : ℕ) → parts ≡ partCount entry → (parts ≡ 0 → ⊥) → Entry entry parts
     entry-good parts c ne = record { checked = check-is ∙ ap good (sym text-is); count = c; some = omega arith }
 
     -- but its parts do not fit
     pub fits-same : (leb (length (split text)) 16 && partsFit unicode16 (split text)) ≡ (leb (length (split entry)) 16 && allShort (split entry))
     fits-same =
-        ap₂ (λ (n : ℕ) (b : Bool). leb n 16 && b) (sym (parts-count entry text passed)) (sym (ap allShort (parts_are entry text passed) ∙ short-bytes unicode16 (split text)))
+        ap₂ (λ (n : ℕ) (b : Bool). leb n 16 && b) (sym (parts-count entry text passed)) (sym (ap allShort (parts-are entry text passed) ∙ short-bytes unicode16 (split text)))
 
-    pub not-counted : 0 ≡ part_count entry → (leb (length (split entry)) 16 && allShort (split entry)) ≡ false
-    unfolding part_count
+    pub not-counted : 0 ≡ partCount entry → (leb (length (split entry)) 16 && allShort (split entry)) ≡ false
+    unfolding partCount
     not-counted z =
         let test = leb (length (split entry)) 16 && allShort (split entry) in
         either test (λ b. absurd (omega (arith, z, ap (λ (x : Bool). pickNumber x (length (split entry)) 0) b, ap length (some-part entry).2))) (λ b. b)
 
-    pub call-parts : (kind : Kind) (position : ℕ) (buffer : List ℕ) → 0 ≡ part_count entry → refused Parts buffer ≡ keyingCall unicode16 entry kind position buffer
+    pub call-parts : (kind : Kind) (position : ℕ) (buffer : List ℕ) → 0 ≡ partCount entry → refused Parts buffer ≡ keyingCall unicode16 entry kind position buffer
     unfolding keyingCall checkEntry
     call-parts kind position buffer z =
         sym (ap (λ (c : Checked). keyingOf unicode16 kind (checkParts unicode16 c) position buffer) check-is

@@ -17,10 +17,10 @@ use Rattle.ji.specs.declared.lomaji.keys.Kind.{Kind}
 use Rattle.ji.specs.declared.lomaji.keys.Kind.TheVariants.{Detoned, Numeric, Telex}
 use Rattle.ji.proofs.unicode.Bytes.{encode-nil, encode-append}
 use Rattle.ji.proofs.unicode.Checked.{Passed}
-use Rattle.khiin_entries.specs.KeySequence.{split, pickTexts, holdsDot, each, product, alone, forms, choices, list_of, keyings}
-use Rattle.khiin_entries.specs.Choices.{points_of, chosen, choicesOf, choicesIn, Radix}
-use Rattle.khiin_entries.proofs.key_sequence.Product.{size, place, Filled, length-product, product_at}
-use Rattle.khiin_entries.proofs.key_sequence.Splitting.{Parted, some-part, Each, Inside, map_at, points-back, split-members, parts_are}
+use Rattle.khiin_entries.specs.KeySequence.{split, pickTexts, holdsDot, each, product, alone, forms, choices, listOf, keyings}
+use Rattle.khiin_entries.specs.Choices.{pointsOf, chosen, choicesOf, choicesIn, Radix}
+use Rattle.khiin_entries.proofs.key_sequence.Product.{size, place, Filled, length-product, product-at}
+use Rattle.khiin_entries.proofs.key_sequence.Splitting.{Parted, some-part, Each, Inside, map-at, points-back, split-members, parts-are}
 
 -- a part has one, two or four choices
 pub radix-some : (n : ℕ) → Radix n → 0 < n
@@ -78,7 +78,7 @@ module _ (t : Table) where
   each-end [] = refl
   each-end (x ∷ xs) = rw (append-nil x, each-end xs)
 
-  list-product : (kind : Kind) (w : List ℕ) (ws : List (List ℕ)) → list_of t kind (w ∷ ws) ≡ product (map (chosen t (eqb (length (w ∷ ws)) 1) kind) (w ∷ ws))
+  list-product : (kind : Kind) (w : List ℕ) (ws : List (List ℕ)) → listOf t kind (w ∷ ws) ≡ product (map (chosen t (eqb (length (w ∷ ws)) 1) kind) (w ∷ ws))
   list-product kind w [] = sym (each-end (alone t kind w))
   list-product kind w (v ∷ ws) =
       ap (λ (b : Bool). product (map (chosen t b kind) (w ∷ (v ∷ ws)))) (sym (ne_eqb (length (w ∷ (v ∷ ws))) 1 (λ e. omega arith)))
@@ -104,7 +104,7 @@ unfolding bytesOfAll
 place-bytes [] position = sym encode-nil
 place-bytes (xs ∷ xss) position =
     ap₂ ◌++◌
-    (ap₂ (λ (n m : ℕ). get_or (map encode xs) (position / n % m) []) (size-bytes xss) (length-map xs encode) ∙ map_at xs (position / size xss % length xs))
+    (ap₂ (λ (n m : ℕ). get_or (map encode xs) (position / n % m) []) (size-bytes xss) (length-map xs encode) ∙ map-at xs (position / size xss % length xs))
     (place-bytes xss position)
     ∙ sym (encode-append (get_or xs (position / size xss % length xs) []) (place xss position))
 
@@ -118,7 +118,7 @@ module _ (entry s : List ℕ) (h : Passed unicode16 1024 entry s) (kind : Kind) 
   choices-are : choicesIn unicode16 kind entry ≡ bytesOfAll (sets unicode16 kind (split s))
   unfolding choicesIn
   choices-are =
-      ap (λ (ps : List (List ℕ)). map (choicesOf unicode16 (eqb (length ps) 1) kind) ps) (parts_are entry s h)
+      ap (λ (ps : List (List ℕ)). map (choicesOf unicode16 (eqb (length ps) 1) kind) ps) (parts-are entry s h)
       ∙ ap (λ (n : ℕ). map (choicesOf unicode16 (eqb n 1) kind) (map encode (split s))) (length-map (split s) encode)
       ∙ chosen-bytes (eqb (length (split s)) 1) kind (split s) (split-members unicode16 s h.inside)
 
@@ -133,5 +133,5 @@ module _ (entry s : List ℕ) (h : Passed unicode16 1024 entry s) (kind : Kind) 
   keying-is position k =
       let xss = sets unicode16 kind (split s) in
       ap (λ (l : List (List ℕ)). encode (get_or l position [])) (keyings-product unicode16 kind s)
-      ∙ ap encode (product_at xss (filled unicode16 (eqb (length (split s)) 1) kind (split s)) position (omega (arith, ap size choices-are, size-bytes xss)))
+      ∙ ap encode (product-at xss (filled unicode16 (eqb (length (split s)) 1) kind (split s)) position (omega (arith, ap size choices-are, size-bytes xss)))
       ∙ sym (ap (λ (l : List (List (List ℕ))). place l position) choices-are ∙ place-bytes xss position)

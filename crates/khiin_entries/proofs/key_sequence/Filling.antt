@@ -15,10 +15,10 @@ use lib.Seq.{take-suc, take-take, take_all, get_or-set_same, get_or-set_other}
 use Rattle.ji.specs.Unicode.{unicode16, pickNumber}
 use Rattle.ji.specs.Reply.{good, checkWithin, checkText}
 use Rattle.ji.specs.declared.lomaji.keys.Kind.{Kind}
-use Rattle.ji.proofs.Bools.{either, and_left, and_right}
+use Rattle.ji.proofs.Bools.{either, and-left, and-right}
 use Rattle.ji.proofs.unicode.Checked.{Passed, check-passed}
 use Rattle.khiin_entries.specs.KeySequence.{split}
-use Rattle.khiin_entries.specs.Choices.{points_of, firstPart, allShort, part_count, Entry, choicesOf, choicesIn, up_to, choiceAt, choicesAt, laidOut, Within, RowOf, Laid}
+use Rattle.khiin_entries.specs.Choices.{pointsOf, firstPart, allShort, partCount, Entry, choicesOf, choicesIn, upTo, choiceAt, choicesAt, laidOut, Within, RowOf, Laid}
 use Rattle.khiin_entries.specs.declared.key_sequence.Row.{Row}
 use Rattle.khiin_entries.proofs.key_sequence.Splitting.{Passing, passing-start, passing-more, passing-inside, passing-text, passing-cut, passing-next, short-at, part-good}
 use Rattle.khiin_entries.proofs.key_sequence.Laying.{upTo-same}
@@ -26,28 +26,28 @@ use Rattle.khiin_entries.proofs.key_sequence.Writing.{cut-front}
 
 -- ── an entry that was found good
 module _ {entry : List ℕ} {parts : ℕ} (h : Entry entry parts) where
-  pub entry-passed : Passed unicode16 1024 entry (points_of entry)
-  entry-passed = check-passed unicode16 1024 entry (points_of entry) h.checked
+  pub entry-passed : Passed unicode16 1024 entry (pointsOf entry)
+  entry-passed = check-passed unicode16 1024 entry (pointsOf entry) h.checked
 
   counted : (b : Bool) → (leb (length (split entry)) 16 && allShort (split entry)) ≡ b → parts ≡ pickNumber b (length (split entry)) 0 → (parts ≡ length (split entry)) × (parts ≤ 16) × (allShort (split entry) ≡ true)
   counted true e c =
-      let few = leb-true (length (split entry)) 16 (and_left (leb (length (split entry)) 16) (allShort (split entry)) e) in
-      (c, omega arith, and_right (leb (length (split entry)) 16) (allShort (split entry)) e)
+      let few = leb-true (length (split entry)) 16 (and-left (leb (length (split entry)) 16) (allShort (split entry)) e) in
+      (c, omega arith, and-right (leb (length (split entry)) 16) (allShort (split entry)) e)
   counted false e c = absurd (omega (arith, h.some))
 
   pub entry-parts : (parts ≡ length (split entry)) × (parts ≤ 16) × (allShort (split entry) ≡ true)
-  unfolding part_count
+  unfolding partCount
   entry-parts = counted (leb (length (split entry)) 16 && allShort (split entry)) refl h.count
 
   -- each part is the bytes of a good text
-  pub entry-part : (i : ℕ) → i < parts → checkText unicode16 (get_or (split entry) i []) ≡ good (points_of (get_or (split entry) i []))
+  pub entry-part : (i : ℕ) → i < parts → checkText unicode16 (get_or (split entry) i []) ≡ good (pointsOf (get_or (split entry) i []))
   entry-part i k =
       let l : i < length (split entry) = omega (arith, entry-parts.0) in
-      part-good entry (points_of entry) entry-passed i l (short-at (split entry) entry-parts.2 i l)
+      part-good entry (pointsOf entry) entry-passed i l (short-at (split entry) entry-parts.2 i l)
 
 -- ── what was laid out stays
-within_more : {o l : List ℕ} {r u v : ℕ} → Within o l r u → u ≤ v → Within o l r v
-within_more h k = record { few = h.few; inside = λ j b. omega (arith, h.inside j b) }
+within-more : {o l : List ℕ} {r u v : ℕ} → Within o l r u → u ≤ v → Within o l r v
+within-more h k = record { few = h.few; inside = λ j b. omega (arith, h.inside j b) }
 
 within-as : {o o' l l' : List ℕ} {r r' u : ℕ} → o ≡ o' → l ≡ l' → r ≡ r' → Within o' l' r' u → Within o l r u
 within-as p q s h = rw (p, q, s) h
@@ -154,20 +154,20 @@ module _ {entry : List ℕ} {kind : Kind} {parts : ℕ} (e : Entry entry parts) 
       laid' j k =
           let b : j ≤ i = omega arith in
           ⊎_elim (λ q. subst (λ (n : ℕ). Within (get_or offsets' n []) (get_or lengths' n []) (get_or radices' n 0) row.end) (sym q) (within-as last.0 last.1 last.2 r.within))
-          (λ l. let p = earlier j l in within-as p.0 p.1 p.2 (within_more (h.laid j l) r.behind))
+          (λ l. let p = earlier j l in within-as p.0 p.1 p.2 (within-more (h.laid j l) r.behind))
           (eq-or-lt_of_le b)
 
       -- their choices
       abbrev rows : List ℕ → List (List ℕ) → List (List ℕ) → List ℕ → ℕ → List (List ℕ)
       rows f o l q j = choicesAt f (get_or o j []) (get_or l j []) (get_or q j 0)
 
-      rows_as : {o o' l l' : List ℕ} {q q' : ℕ} → o ≡ o' → l ≡ l' → q ≡ q' → choicesAt forms' o l q ≡ choicesAt forms' o' l' q'
-      rows_as p q s = rw (p, q, s)
+      rows-as : {o o' l l' : List ℕ} {q q' : ℕ} → o ≡ o' → l ≡ l' → q ≡ q' → choicesAt forms' o l q ≡ choicesAt forms' o' l' q'
+      rows-as p q s = rw (p, q, s)
 
-      same_rows : (j : ℕ) → j < i → rows forms' offsets' lengths' radices' j ≡ rows forms offsets lengths radices j
-      same_rows j k =
+      same-rows : (j : ℕ) → j < i → rows forms' offsets' lengths' radices' j ≡ rows forms offsets lengths radices j
+      same-rows j k =
           let p = earlier j k in
-          rows_as p.0 p.1 p.2 ∙ same-choices forms forms' used r.front (get_or offsets j []) (get_or lengths j []) (get_or radices j 0) (h.laid j k)
+          rows-as p.0 p.1 p.2 ∙ same-choices forms forms' used r.front (get_or offsets j []) (get_or lengths j []) (get_or radices j 0) (h.laid j k)
 
       texts' : laidOut forms' offsets' lengths' radices' (suc i) ≡ take (suc i) (choicesIn unicode16 kind entry)
       unfolding laidOut choicesIn
@@ -175,8 +175,8 @@ module _ {entry : List ℕ} {kind : Kind} {parts : ℕ} (e : Entry entry parts) 
           let f = choicesOf unicode16 (eqb (length (split entry)) 1) kind in
           let n : eqb parts 1 ≡ eqb (length (split entry)) 1 = ap (λ (m : ℕ). eqb m 1) (entry-parts e).0 in
           ap₂ (λ (x : List (List (List ℕ))) (y : List (List ℕ)). x ++ (y ∷ []))
-          (upTo-same (rows forms' offsets' lengths' radices') (rows forms offsets lengths radices) i same_rows ∙ h.texts)
-          (rows_as last.0 last.1 last.2 ∙ r.texts ∙ ap (λ (b : Bool). choicesOf unicode16 b kind part) n ∙ sym (map-getD f (split entry) i [] [] known))
+          (upTo-same (rows forms' offsets' lengths' radices') (rows forms offsets lengths radices) i same-rows ∙ h.texts)
+          (rows-as last.0 last.1 last.2 ∙ r.texts ∙ ap (λ (b : Bool). choicesOf unicode16 b kind part) n ∙ sym (map-getD f (split entry) i [] [] known))
           ∙ sym (take-suc (map f (split entry)) i [] (omega (arith, known, length-map (split entry) f)))
 
       pub filling-next : Filling entry kind forms' offsets' lengths' radices' (i + 1) (end + 1) row.end
@@ -200,4 +200,4 @@ filling-all {entry} {kind} {parts} {forms} {offsets} {lengths} {radices} {i} e h
     rw (← all) (h.texts ∙ take_all i (map f (split entry)) (omega (arith, (entry-parts e).0, length-map (split entry) f)))
 
 pub filling-laid : {entry : List ℕ} {kind : Kind} {parts n : ℕ} {forms : List ℕ} {offsets lengths : List (List ℕ)} {radices : List ℕ} {i at used : ℕ} → Filling entry kind forms offsets lengths radices i at used → i ≡ parts → used ≤ n → Laid offsets lengths radices parts n
-filling-laid h all k j b = within_more (h.laid j (omega arith)) k
+filling-laid h all k j b = within-more (h.laid j (omega arith)) k

@@ -41,17 +41,17 @@ pub size-pos : (xss : List Texts) → Filled xss → 0 < size xss
 size-pos [] f = omega arith
 size-pos (xs ∷ xss) f = mul-pos f.0 (size-pos xss f.1)
 
-get_d_after : (x : List ℕ) (ts : Texts) (r : ℕ) → r < length ts → get_or (map (λ (t : List ℕ). x ++ t) ts) r [] ≡ x ++ get_or ts r []
-get_d_after x [] r h = absurd (omega arith)
-get_d_after x (t ∷ ts) zero h = refl
-get_d_after x (t ∷ ts) (suc r) h = get_d_after x ts r (omega arith)
+getD-after : (x : List ℕ) (ts : Texts) (r : ℕ) → r < length ts → get_or (map (λ (t : List ℕ). x ++ t) ts) r [] ≡ x ++ get_or ts r []
+getD-after x [] r h = absurd (omega arith)
+getD-after x (t ∷ ts) zero h = refl
+getD-after x (t ∷ ts) (suc r) h = getD-after x ts r (omega arith)
 
 getD-each : (xs ts : Texts) (q r : ℕ) → r < length ts → q < length xs → get_or (each xs ts) (q * length ts + r) [] ≡ get_or xs q [] ++ get_or ts r []
 getD-each [] ts q r h k = absurd (omega arith)
 getD-each (x ∷ xs) ts zero r h k =
     let e : 0 * length ts + r ≡ r = rw zero-mul (omega arith) in
     let l : r < length (map (λ (t : List ℕ). x ++ t) ts) = rw length-map h in
-    rw e (get_or-append (map (λ (t : List ℕ). x ++ t) ts) (each xs ts) [] r l ∙ get_d_after x ts r h)
+    rw e (get_or-append (map (λ (t : List ℕ). x ++ t) ts) (each xs ts) [] r l ∙ getD-after x ts r h)
 getD-each (x ∷ xs) ts (suc q) r h k =
     let e : suc q * length ts + r ≡ length (map (λ (t : List ℕ). x ++ t) ts) + (q * length ts + r) = rw (suc-mul, length-map) (omega arith) in
     rw e (get_or-append-add (map (λ (t : List ℕ). x ++ t) ts) (each xs ts) (q * length ts + r) [] ∙ getD-each xs ts q r h (omega arith))
@@ -69,10 +69,10 @@ place-skip (xs ∷ xss) f q r =
     digit q l s r h = rw (mul-add-div_right h (q * l) r) (mul-add-mod_self_right q l (r / s))
 
 -- the combination at a position is what the position's digits choose
-pub product_at : (xss : List Texts) → Filled xss → (pos : ℕ) → pos < size xss → get_or (product xss) pos [] ≡ place xss pos
-product_at [] f zero h = refl
-product_at [] f (suc pos) h = refl
-product_at (xs ∷ xss) f pos h =
+pub product-at : (xss : List Texts) → Filled xss → (pos : ℕ) → pos < size xss → get_or (product xss) pos [] ≡ place xss pos
+product-at [] f zero h = refl
+product-at [] f (suc pos) h = refl
+product-at (xs ∷ xss) f pos h =
     let s = size xss in
     let z : 0 < s = size-pos xss f.1 in
     let q = pos / s in
@@ -84,7 +84,7 @@ product_at (xs ∷ xss) f pos h =
     let n : length (product xss) ≡ s = length-product xss in
     let g : get_or (each xs (product xss)) (q * length (product xss) + r) [] ≡ get_or xs q [] ++ get_or (product xss) r [] = getD-each xs (product xss) q r (rw n hr) hq in
     let g' : get_or (each xs (product xss)) pos [] ≡ get_or xs q [] ++ get_or (product xss) r [] = ap (λ (k : ℕ). get_or (each xs (product xss)) k []) (sym (ap (λ (k : ℕ). q * k + r) n ∙ e)) ∙ g in
-    let i : get_or (product xss) r [] ≡ place xss r = product_at xss f.1 r hr in
+    let i : get_or (product xss) r [] ≡ place xss r = product-at xss f.1 r hr in
     let k : place xss r ≡ place xss pos = sym (place-skip xss f.1 q r) ∙ ap (place xss) e in
     g' ∙ (rw (i, k, m))
 

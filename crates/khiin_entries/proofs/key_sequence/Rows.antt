@@ -11,8 +11,8 @@ use Rattle.ji.specs.Unicode.{unicode16}
 use Rattle.ji.specs.Reply.{good, checkText}
 use Rattle.ji.specs.declared.lomaji.keys.Form.TheVariants.{Plain, Oo}
 use Rattle.ji.specs.declared.lomaji.keys.Kind.{Kind}
-use Rattle.khiin_entries.specs.Choices.{points_of, formBytes, choicesOf, choicesAt, rowOne, rowTwo, rowOneToned, rowTwoToned, RowOf, Within}
-use Rattle.khiin_entries.proofs.key_sequence.Writing.{Stands, pasted_length, put-stands, put_front, put_keeps, stands-front}
+use Rattle.khiin_entries.specs.Choices.{pointsOf, formBytes, choicesOf, choicesAt, rowOne, rowTwo, rowOneToned, rowTwoToned, RowOf, Within}
+use Rattle.khiin_entries.proofs.key_sequence.Writing.{Stands, pasted-length, put-stands, put-front, put-keeps, stands-front}
 use Rattle.khiin_entries.proofs.key_sequence.Forms.{form-bytes}
 
 pub cut : {buffer : List ℕ} {at : ℕ} {s : List ℕ} → Stands buffer at s → (n : ℕ) → n ≡ length s → take n (drop at buffer) ≡ s
@@ -103,7 +103,7 @@ module _ (single : Bool) (kind : Kind) (part before after : List ℕ) (at : ℕ)
 
 -- ── what the calls that put forms into the buffer leave there. It has room for five bytes for each byte of the part, and two more
 abbrev pub Room : List ℕ → List ℕ → ℕ → Type 0
-Room part before at = (checkText unicode16 part ≡ good (points_of part)) × (at + (5 * length part + 2) ≤ length before) × (length before ≤ 65535)
+Room part before at = (checkText unicode16 part ≡ good (pointsOf part)) × (at + (5 * length part + 2) ≤ length before) × (length before ≤ 65535)
 
 module _ (kind : Kind) (part before : List ℕ) (at : ℕ) where
   abbrev p : List ℕ
@@ -123,13 +123,13 @@ module _ (kind : Kind) (part before : List ℕ) (at : ℕ) where
 
   module _ {mid : ℕ} {after : List ℕ} (h : OnePut mid after) where
     pub one-length : length after ≡ length before
-    one-length = ap length h.put ∙ pasted_length before at p (first-room h.room)
+    one-length = ap length h.put ∙ pasted-length before at p (first-room h.room)
 
     pub one-stands : Stands after at p
     one-stands = rw h.put (put-stands before at p (first-room h.room))
 
     pub one-front : take at after ≡ take at before
-    one-front = ap (take at) h.put ∙ put_front before at p (first-room h.room)
+    one-front = ap (take at) h.put ∙ put-front before at p (first-room h.room)
 
     -- it has at most half of the room, so another one goes in
     pub one-short : (mid ≤ at + (5 * length part + 2)) × (mid + length o ≤ length after) × (mid ≤ 65535)
@@ -149,10 +149,10 @@ module _ (kind : Kind) (part before : List ℕ) (at : ℕ) where
     second-room = (one-short h.one).1
 
     pub two-length : length after ≡ length before
-    two-length = ap length h.put ∙ pasted_length h.middle mid o second-room ∙ one-length h.one
+    two-length = ap length h.put ∙ pasted-length h.middle mid o second-room ∙ one-length h.one
 
     pub two-first : Stands after at p
-    two-first = rw h.put (put_keeps h.middle mid o second-room at p (one-stands h.one) (omega (arith, h.one.ends)))
+    two-first = rw h.put (put-keeps h.middle mid o second-room at p (one-stands h.one) (omega (arith, h.one.ends)))
 
     pub two-second : Stands after mid o
     two-second = rw h.put (put-stands h.middle mid o second-room)
@@ -160,7 +160,7 @@ module _ (kind : Kind) (part before : List ℕ) (at : ℕ) where
     pub two-front : take at after ≡ take at before
     two-front =
         let l : at ≤ mid = omega (arith, h.one.ends) in
-        sym (take-take at mid after l) ∙ ap (take at) (ap (take mid) h.put ∙ put_front h.middle mid o second-room) ∙ take-take at mid h.middle l ∙ one-front h.one
+        sym (take-take at mid after l) ∙ ap (take at) (ap (take mid) h.put ∙ put-front h.middle mid o second-room) ∙ take-take at mid h.middle l ∙ one-front h.one
 
     pub two-short : (mid ≤ end) × (end ≤ at + (5 * length part + 2)) × (end ≤ length before) × (end ≤ 65535)
     two-short =

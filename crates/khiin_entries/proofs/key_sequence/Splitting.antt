@@ -13,15 +13,15 @@ use lib.Dec.{eqb, leb}
 use lib.ListN.{length, take, drop, get_or, length-map, get_or-map, length-drop, drop_of_length-le}
 use lib.Seq.{drop-cons, drop-drop, get_or-drop}
 use Rattle.ji.specs.Unicode.{Table, All, unicode16, member, members}
-use Rattle.ji.specs.Utf8.{bytes_of, encode, decode}
+use Rattle.ji.specs.Utf8.{bytesOf, encode, decode}
 use Rattle.ji.specs.Reply.{good, checkWithin, checkText}
 use Rattle.ji.specs.Lomaji.Dot.{dotIn}
-use Rattle.ji.proofs.Bools.{either, false-true, and_left, and_right, and_yes, and_no, and-false, or_yes, or_no}
-use Rattle.ji.proofs.unicode.Bytes.{bytes_one, bytes-two, bytes-three, bytes-four, encode-nil, encode-cons, listed_nil, listed_cons}
-use Rattle.ji.proofs.unicode.Checked.{read_back, check-passes, Passed}
+use Rattle.ji.proofs.Bools.{either, false-true, and-left, and-right, and-yes, and-no, and-false, or-yes, or-no}
+use Rattle.ji.proofs.unicode.Bytes.{bytes-one, bytes-two, bytes-three, bytes-four, encode-nil, encode-cons, listed-nil, listed-cons}
+use Rattle.ji.proofs.unicode.Checked.{read-back, check-passes, Passed}
 use Rattle.khiin_entries.specs.KeySequence.{pickTexts, inFront, split, holdsDot, partsFit}
 use Rattle.ji.proofs.lomaji.dot.Laws.{dot-listed}
-use Rattle.khiin_entries.specs.Choices.{textIn, points_of, firstPart, allShort}
+use Rattle.khiin_entries.specs.Choices.{textIn, pointsOf, firstPart, allShort}
 
 -- ── one code point
 split-nil : split [] ≡ [] ∷ []
@@ -40,37 +40,37 @@ split-other c s ne = ap (λ (b : Bool). pickTexts b ([] ∷ split s) (inFront c 
 abbrev pub Parted : List (List ℕ) → Type 0
 Parted ps = (w : List ℕ) × (ws : List (List ℕ)) × (ps ≡ w ∷ ws)
 
-some_more : (c : ℕ) (s : List ℕ) → Parted (split s) → Dec (c ≡ 0x20) → Parted (split (c ∷ s))
-some_more c s p (yes e) = ([], split s, split-space c s e)
-some_more c s p (no ne) = (c ∷ p.0, p.1, split-other c s ne ∙ ap (inFront c) p.2)
+some-more : (c : ℕ) (s : List ℕ) → Parted (split s) → Dec (c ≡ 0x20) → Parted (split (c ∷ s))
+some-more c s p (yes e) = ([], split s, split-space c s e)
+some-more c s p (no ne) = (c ∷ p.0, p.1, split-other c s ne ∙ ap (inFront c) p.2)
 
 pub some-part : (s : List ℕ) → Parted (split s)
 some-part [] = ([], [], split-nil)
-some-part (c ∷ s) = some_more c s (some-part s) (ℕ_discrete c 0x20)
+some-part (c ∷ s) = some-more c s (some-part s) (ℕ_discrete c 0x20)
 
 -- what holds of each part
 abbrev pub Each : (List ℕ → Type 0) → List (List ℕ) → Type 0
 Each P [] = Unit {0}
 Each P (w ∷ ws) = P w × Each P ws
 
-pub each_at : (P : List ℕ → Type 0) (ws : List (List ℕ)) → Each P ws → (i : ℕ) → i < length ws → P (get_or ws i [])
-each_at P [] h i k = absurd (omega arith)
-each_at P (w ∷ ws) h zero k = h.0
-each_at P (w ∷ ws) h (suc i) k = each_at P ws h.1 i (omega arith)
+pub each-at : (P : List ℕ → Type 0) (ws : List (List ℕ)) → Each P ws → (i : ℕ) → i < length ws → P (get_or ws i [])
+each-at P [] h i k = absurd (omega arith)
+each-at P (w ∷ ws) h zero k = h.0
+each-at P (w ∷ ws) h (suc i) k = each-at P ws h.1 i (omega arith)
 
 -- ── the bytes of an entry
 -- no byte of any other code point is a space
 abbrev NoSpace : List ℕ → Type 0
 NoSpace s = All (λ b. b ≡ 0x20 → ⊥) s
 
-no-space : (x : ℕ) → (x ≡ 0x20 → ⊥) → NoSpace (bytes_of x)
-no-space x ne = by_size (dec_le x 0x7F) (dec_le x 0x7FF) (dec_le x 0xFFFF)
+no-space : (x : ℕ) → (x ≡ 0x20 → ⊥) → NoSpace (bytesOf x)
+no-space x ne = by-size (dec_le x 0x7F) (dec_le x 0x7FF) (dec_le x 0xFFFF)
   where
-    by_size : Dec (x ≤ 0x7F) → Dec (x ≤ 0x7FF) → Dec (x ≤ 0xFFFF) → NoSpace (bytes_of x)
-    by_size (yes h) q r = rw (bytes_one x h) (ne, tt)
-    by_size (no h) (yes k) r = rw (bytes-two x (omega arith) k) (λ e. omega arith, (λ e. omega arith, tt))
-    by_size (no h) (no k) (yes l) = rw (bytes-three x (omega arith) l) (λ e. omega arith, (λ e. omega arith, (λ e. omega arith, tt)))
-    by_size (no h) (no k) (no l) = rw (bytes-four x (omega arith)) (λ e. omega arith, (λ e. omega arith, (λ e. omega arith, (λ e. omega arith, tt))))
+    by-size : Dec (x ≤ 0x7F) → Dec (x ≤ 0x7FF) → Dec (x ≤ 0xFFFF) → NoSpace (bytesOf x)
+    by-size (yes h) q r = rw (bytes-one x h) (ne, tt)
+    by-size (no h) (yes k) r = rw (bytes-two x (omega arith) k) (λ e. omega arith, (λ e. omega arith, tt))
+    by-size (no h) (no k) (yes l) = rw (bytes-three x (omega arith) l) (λ e. omega arith, (λ e. omega arith, (λ e. omega arith, tt)))
+    by-size (no h) (no k) (no l) = rw (bytes-four x (omega arith)) (λ e. omega arith, (λ e. omega arith, (λ e. omega arith, (λ e. omega arith, tt))))
 
 -- so they go to the first part of the rest
 split-behind : (v s : List ℕ) → NoSpace v → (w : List ℕ) (ws : List (List ℕ)) → split s ≡ w ∷ ws → split (v ++ s) ≡ (v ++ w) ∷ ws
@@ -79,14 +79,14 @@ split-behind (c ∷ v) s h w ws e = split-other c (v ++ s) h.0 ∙ ap (inFront c
 
 encode-more : (x : ℕ) (s : List ℕ) → split (encode s) ≡ map encode (split s) → Parted (split s) → Dec (x ≡ 0x20) → split (encode (x ∷ s)) ≡ map encode (split (x ∷ s))
 encode-more x s ih p (yes e) =
-    ap split (encode-cons x s ∙ ap (λ (l : List ℕ). l ++ encode s) (bytes_one x (omega arith)))
+    ap split (encode-cons x s ∙ ap (λ (l : List ℕ). l ++ encode s) (bytes-one x (omega arith)))
     ∙ split-space x (encode s) e
     ∙ ap₂ ◌∷◌ (sym encode-nil) ih
     ∙ ap (map encode) (sym (split-space x s e))
 encode-more x s ih p (no ne) =
     let ws = map encode p.1 in
     ap split (encode-cons x s)
-    ∙ split-behind (bytes_of x) (encode s) (no-space x ne) (encode p.0) ws (ih ∙ ap (map encode) p.2)
+    ∙ split-behind (bytesOf x) (encode s) (no-space x ne) (encode p.0) ws (ih ∙ ap (map encode) p.2)
     ∙ ap (λ (l : List ℕ). l ∷ ws) (sym (encode-cons x p.0))
     ∙ ap (map encode) (sym (split-other x s ne ∙ ap (inFront x) p.2))
 
@@ -103,12 +103,12 @@ unfolding members
 members-more t c s h ih p (yes e) = rw (split-space c s e) (refl, ih)
 members-more t c s h ih p (no ne) =
     let ws = rw p.2 at ih in
-    rw (split-other c s ne, p.2) (and_yes _ _ (and_left (member t c) (members t s) h) ∙ ws.0, ws.1)
+    rw (split-other c s ne, p.2) (and-yes _ _ (and-left (member t c) (members t s) h) ∙ ws.0, ws.1)
 
 pub split-members : (t : Table) (s : List ℕ) → members t s ≡ true → Each (Inside t) (split s)
 unfolding members
 split-members t [] h = rw split-nil (refl, tt)
-split-members t (c ∷ s) h = members-more t c s h (split-members t s (and_right (member t c) (members t s) h)) (some-part s) (ℕ_discrete c 0x20)
+split-members t (c ∷ s) h = members-more t c s h (split-members t s (and-right (member t c) (members t s) h)) (some-part s) (ℕ_discrete c 0x20)
 
 -- a part holds 0358 where its bytes do
 pub dot-bytes : (w : List ℕ) → dotIn (encode w) ≡ holdsDot w
@@ -160,11 +160,11 @@ ended (c ∷ s) = ended-more c s (ended s) (ℕ_discrete c 0x20)
 
 -- where the first part ends, one byte at a time
 module _ (s : List ℕ) (i : ℕ) where
-  pub first_ends : i < length s → get_or s i 0 ≡ 0x20 → length (firstPart (drop i s)) ≡ 0
-  first_ends h e = rw (drop-cons s i 0 h, first-space (get_or s i 0) (drop (suc i) s) e)
+  pub first-ends : i < length s → get_or s i 0 ≡ 0x20 → length (firstPart (drop i s)) ≡ 0
+  first-ends h e = rw (drop-cons s i 0 h, first-space (get_or s i 0) (drop (suc i) s) e)
 
-  pub first_goes : i < length s → (get_or s i 0 ≡ 0x20 → ⊥) → length (firstPart (drop i s)) ≡ suc (length (firstPart (drop (i + 1) s)))
-  first_goes h ne = rw (drop-cons s i 0 h, first-other (get_or s i 0) (drop (suc i) s) ne, add-one i)
+  pub first-goes : i < length s → (get_or s i 0 ≡ 0x20 → ⊥) → length (firstPart (drop i s)) ≡ suc (length (firstPart (drop (i + 1) s)))
+  first-goes h ne = rw (drop-cons s i 0 h, first-other (get_or s i 0) (drop (suc i) s) ne, add-one i)
 
   pub first-over : length s ≤ i → length (firstPart (drop i s)) ≡ 0
   first-over h = rw (drop_of_length-le s h, first-nil)
@@ -218,36 +218,36 @@ short-bytes t (w ∷ ws) = ap (λ (b : Bool). leb (length (encode w)) 256 && b) 
 
 pub short-at : (ws : List (List ℕ)) → allShort ws ≡ true → (i : ℕ) → i < length ws → length (get_or ws i []) ≤ 256
 short-at [] h i k = absurd (omega arith)
-short-at (w ∷ ws) h zero k = leb-true (length w) 256 (and_left (leb (length w) 256) (allShort ws) h)
-short-at (w ∷ ws) h (suc i) k = short-at ws (and_right (leb (length w) 256) (allShort ws) h) i (omega arith)
+short-at (w ∷ ws) h zero k = leb-true (length w) 256 (and-left (leb (length w) 256) (allShort ws) h)
+short-at (w ∷ ws) h (suc i) k = short-at ws (and-right (leb (length w) 256) (allShort ws) h) i (omega arith)
 
-pub points-back : (w : List ℕ) → members unicode16 w ≡ true → points_of (encode w) ≡ w
-unfolding points_of
-points-back w h = ap textIn (read_back w h)
+pub points-back : (w : List ℕ) → members unicode16 w ≡ true → pointsOf (encode w) ≡ w
+unfolding pointsOf
+points-back w h = ap textIn (read-back w h)
 
-pub map_at : (ws : List (List ℕ)) (i : ℕ) → get_or (map encode ws) i [] ≡ encode (get_or ws i [])
-map_at ws i = ap (λ (d : List ℕ). get_or (map encode ws) i d) (sym encode-nil) ∙ get_or-map encode ws i []
+pub map-at : (ws : List (List ℕ)) (i : ℕ) → get_or (map encode ws) i [] ≡ encode (get_or ws i [])
+map-at ws i = ap (λ (d : List ℕ). get_or (map encode ws) i d) (sym encode-nil) ∙ get_or-map encode ws i []
 
 module _ (entry s : List ℕ) (h : Passed unicode16 1024 entry s) where
   -- the entry's parts
-  pub parts_are : split entry ≡ map encode (split s)
-  parts_are = ap split (sym h.written) ∙ split-encode s
+  pub parts-are : split entry ≡ map encode (split s)
+  parts-are = ap split (sym h.written) ∙ split-encode s
 
   pub parts-count : length (split entry) ≡ length (split s)
-  parts-count = ap length parts_are ∙ length-map (split s) encode
+  parts-count = ap length parts-are ∙ length-map (split s) encode
 
   module _ (i : ℕ) (k : i < length (split entry)) where
     abbrev part : List ℕ
     part = get_or (split s) i []
 
     part-inside : members unicode16 part ≡ true
-    part-inside = each_at (Inside unicode16) (split s) (split-members unicode16 s h.inside) i (omega (arith, parts-count))
+    part-inside = each-at (Inside unicode16) (split s) (split-members unicode16 s h.inside) i (omega (arith, parts-count))
 
     part-is : get_or (split entry) i [] ≡ encode part
-    part-is = ap (λ (ps : List (List ℕ)). get_or ps i []) parts_are ∙ map_at (split s) i
+    part-is = ap (λ (ps : List (List ℕ)). get_or ps i []) parts-are ∙ map-at (split s) i
 
     -- each is the bytes of a good text
-    pub part-good : length (get_or (split entry) i []) ≤ 256 → checkText unicode16 (get_or (split entry) i []) ≡ good (points_of (get_or (split entry) i []))
+    pub part-good : length (get_or (split entry) i []) ≤ 256 → checkText unicode16 (get_or (split entry) i []) ≡ good (pointsOf (get_or (split entry) i []))
     unfolding checkText
     part-good short =
         rw (part-is, points-back part part-inside) (check-passes 256 part part-inside (rw part-is at short))

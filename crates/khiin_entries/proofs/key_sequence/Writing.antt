@@ -21,38 +21,38 @@ module _ (d : List ℕ) (at : ℕ) (s : List ℕ) (room : at + length s ≤ leng
   abbrev pasted : List ℕ
   pasted = paste d at s (length s)
 
-  front_length : length (take at d) ≡ at
-  front_length = length-take-le at d (omega arith)
+  front-length : length (take at d) ≡ at
+  front-length = length-take-le at d (omega arith)
 
   pasted-is : pasted ≡ take at d ++ (s ++ drop (at + length s) d)
   pasted-is = ap (λ (l : List ℕ). take at d ++ l ++ drop (at + length s) d) (take-length s) ∙ append_assoc (take at d) s (drop (at + length s) d)
 
-  pub pasted_length : length pasted ≡ length d
-  pasted_length = length-paste d at s (length s) room (omega arith)
+  pub pasted-length : length pasted ≡ length d
+  pasted-length = length-paste d at s (length s) room (omega arith)
 
   -- a text that was put there stands there
   pub put-stands : Stands pasted at s
   put-stands =
       record {
         text = ap (λ (l : List ℕ). take (length s) (drop at l)) pasted-is
-            ∙ ap (take (length s)) (drop_at (take at d) (s ++ drop (at + length s) d) at front_length)
+            ∙ ap (take (length s)) (drop_at (take at d) (s ++ drop (at + length s) d) at front-length)
             ∙ take_at s (drop (at + length s) d) (length s) refl;
-        inside = omega (arith, pasted_length);
+        inside = omega (arith, pasted-length);
       }
 
   -- what is before it is as it was
-  pub put_front : take at pasted ≡ take at d
-  put_front = ap (take at) pasted-is ∙ take_at (take at d) (s ++ drop (at + length s) d) at front_length
+  pub put-front : take at pasted ≡ take at d
+  put-front = ap (take at) pasted-is ∙ take_at (take at d) (s ++ drop (at + length s) d) at front-length
 
   -- so what stood there still does
-  pub put_keeps : (a : ℕ) (u : List ℕ) → Stands d a u → a + length u ≤ at → Stands pasted a u
-  put_keeps a u h k =
+  pub put-keeps : (a : ℕ) (u : List ℕ) → Stands d a u → a + length u ≤ at → Stands pasted a u
+  put-keeps a u h k =
       record {
         text = cut-front (length u) a pasted
-            ∙ ap (drop a) (sym (take-take (a + length u) at pasted k) ∙ ap (take (a + length u)) put_front ∙ take-take (a + length u) at d k)
+            ∙ ap (drop a) (sym (take-take (a + length u) at pasted k) ∙ ap (take (a + length u)) put-front ∙ take-take (a + length u) at d k)
             ∙ sym (cut-front (length u) a d)
             ∙ h.text;
-        inside = omega (arith, pasted_length);
+        inside = omega (arith, pasted-length);
       }
 
 -- the beginning of a text that stands there
@@ -65,14 +65,14 @@ stands-front {buffer} {at} s u h =
       inside = omega arith;
     }
 
-pub part_room : (d : List ℕ) (at n : ℕ) → at + n ≤ length d → n ≤ length (take (length d - at) (drop at d))
-part_room d at n room =
+pub part-room : (d : List ℕ) (at n : ℕ) → at + n ≤ length d → n ≤ length (take (length d - at) (drop at d))
+part-room d at n room =
     let l : length (drop at d) ≡ length d - at = length-drop at d in
     rw (take_all (length d - at) (drop at d) (omega arith)) (omega arith)
 
 -- the part of the buffer from `at` on, which a call gave back with s over its front, put back
-pub put_back : (d s part : List ℕ) (at : ℕ) → at + length s ≤ length d → part ≡ s ++ drop (length s) (take (length d - at) (drop at d)) → take at d ++ (part ++ drop (length d - at) (drop at d)) ≡ paste d at s (length s)
-put_back d s part at room e =
+pub put-back : (d s part : List ℕ) (at : ℕ) → at + length s ≤ length d → part ≡ s ++ drop (length s) (take (length d - at) (drop at d)) → take at d ++ (part ++ drop (length d - at) (drop at d)) ≡ paste d at s (length s)
+put-back d s part at room e =
     let l : length (drop at d) ≡ length d - at = length-drop at d in
     let whole : take (length d - at) (drop at d) ≡ drop at d = take_all (length d - at) (drop at d) (omega arith) in
     let all : length (drop at d) ≤ length d - at = omega arith in

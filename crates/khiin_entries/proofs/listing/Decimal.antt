@@ -27,9 +27,9 @@ pub record Counting (n left digits : ℕ) : Type 0 where
 pub counting-start : (n : ℕ) → n < 18446744073709551616 → Counting n n 1
 counting-start n h = record { bound = 19; steps = refl; low = omega arith; is = refl }
 
-counting_more : (n left digits k : ℕ) → k + digits ≡ 20 → left < 10 ^ suc k → digits + digitCount k left ≡ 1 + digitCount 19 n → 10 ≤ left → Counting n (left / 10) (digits + 1)
-counting_more n left digits zero s l e h = absurd (omega arith)
-counting_more n left digits (suc k) s l e h =
+counting-more : (n left digits k : ℕ) → k + digits ≡ 20 → left < 10 ^ suc k → digits + digitCount k left ≡ 1 + digitCount 19 n → 10 ≤ left → Counting n (left / 10) (digits + 1)
+counting-more n left digits zero s l e h = absurd (omega arith)
+counting-more n left digits (suc k) s l e h =
     record {
       bound = k;
       steps = omega arith;
@@ -38,7 +38,7 @@ counting_more n left digits (suc k) s l e h =
     }
 
 pub counting-next : {n left digits : ℕ} → Counting n left digits → 10 ≤ left → Counting n (left / 10) (digits + 1)
-counting-next {n} {left} {digits} c h = counting_more n left digits c.bound c.steps c.low c.is h
+counting-next {n} {left} {digits} c h = counting-more n left digits c.bound c.steps c.low c.is h
 
 pub counting-end : {n left digits : ℕ} → Counting n left digits → left < 10 → (digits ≡ digitCount 19 n) × (digits ≤ 20)
 counting-end {n} {left} {digits} c h = (omega (arith, c.is, digit-last c.bound left h), omega (arith, c.steps))
@@ -56,6 +56,6 @@ pub decimal-is : (n digits : ℕ) → digits ≡ digitCount 19 n → lastDigits 
 unfolding decimal
 decimal-is n digits e = ap (λ (k : ℕ). lastDigits k n) e
 
-pub last_turn : (k n : ℕ) → 0 < k → lastDigits k n ≡ lastDigits (k - 1) (n / 10) ++ ((48 + n % 10) ∷ [])
-last_turn zero n h = absurd (omega arith)
-last_turn (suc k) n h = let z : suc k - 1 ≡ k = omega arith in rw z
+pub last-turn : (k n : ℕ) → 0 < k → lastDigits k n ≡ lastDigits (k - 1) (n / 10) ++ ((48 + n % 10) ∷ [])
+last-turn zero n h = absurd (omega arith)
+last-turn (suc k) n h = let z : suc k - 1 ≡ k = omega arith in rw z

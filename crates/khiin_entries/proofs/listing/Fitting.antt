@@ -22,8 +22,8 @@ together-append (l ∷ p) q = ap (λ (t : List ℕ). l ++ t) (together-append p 
 pub fit-one : (l : List ℕ) (ls : Lines) (room : ℕ) → length l ≤ room → fitting (l ∷ ls) room ≡ suc (fitting ls (room - length l))
 fit-one l ls room h = number-yes _ _ _ (le-leb (length l) room h)
 
-pub fit_none : (l : List ℕ) (ls : Lines) (room : ℕ) → room < length l → fitting (l ∷ ls) room ≡ 0
-fit_none l ls room h = number-no _ _ _ (lt-leb (length l) room h)
+pub fit-none : (l : List ℕ) (ls : Lines) (room : ℕ) → room < length l → fitting (l ∷ ls) room ≡ 0
+fit-none l ls room h = number-no _ _ _ (lt-leb (length l) room h)
 
 -- what holds in both cases
 by-room : {A : Type 0} (n room : ℕ) → (n ≤ room → A) → (room < n → A) → A
@@ -34,18 +34,18 @@ fit-most [] room = omega arith
 fit-most (l ∷ ls) room =
     by-room (length l) room
     (λ h. omega (arith, fit-one l ls room h, fit-most ls (room - length l)))
-    (λ h. omega (arith, fit_none l ls room h))
+    (λ h. omega (arith, fit-none l ls room h))
 
 -- all lines of p go in: then come those of q
-pub fit_all : (p q : Lines) (room : ℕ) → fitting p room ≡ length p → fitting (p ++ q) room ≡ length p + fitting q (room - length (together p))
-fit_all [] q room e = let z : room - 0 ≡ room = omega arith in rw (z, zero-add)
-fit_all (l ∷ p) q room e =
+pub fit-all : (p q : Lines) (room : ℕ) → fitting p room ≡ length p → fitting (p ++ q) room ≡ length p + fitting q (room - length (together p))
+fit-all [] q room e = let z : room - 0 ≡ room = omega arith in rw (z, zero-add)
+fit-all (l ∷ p) q room e =
     by-room (length l) room
     (λ h. let n : room - length l - length (together p) ≡ room - length (l ++ together p) = omega (arith, length-append l (together p)) in
-    let i : fitting (p ++ q) (room - length l) ≡ length p + fitting q (room - length l - length (together p)) = fit_all p q (room - length l) (omega (arith, e, fit-one l p room h)) in
+    let i : fitting (p ++ q) (room - length l) ≡ length p + fitting q (room - length l - length (together p)) = fit-all p q (room - length l) (omega (arith, e, fit-one l p room h)) in
     let j : fitting q (room - length l - length (together p)) ≡ fitting q (room - length (l ++ together p)) = ap (fitting q) n in
     omega (arith, fit-one l (p ++ q) room h))
-    (λ h. absurd (omega (arith, e, fit_none l p room h)))
+    (λ h. absurd (omega (arith, e, fit-none l p room h)))
 
 -- a line of p does not go in: then none of q does
 pub fit-part : (p q : Lines) (room : ℕ) → fitting p room < length p → fitting (p ++ q) room ≡ fitting p room
@@ -54,7 +54,7 @@ fit-part (l ∷ p) q room k =
     by-room (length l) room
     (λ h. let e : fitting (l ∷ p) room ≡ suc (fitting p (room - length l)) = fit-one l p room h in
     fit-one l (p ++ q) room h ∙ ap suc (fit-part p q (room - length l) (omega arith)) ∙ sym e)
-    (λ h. fit_none l (p ++ q) room h ∙ sym (fit_none l p room h))
+    (λ h. fit-none l (p ++ q) room h ∙ sym (fit-none l p room h))
 
 -- ── the lines themselves
 pub going-count : (ls : Lines) (room : ℕ) → length (goingIn ls room) ≡ fitting ls room
@@ -75,7 +75,7 @@ going-whole p room e = ap (λ (k : ℕ). take k p) e ∙ take-length p
 
 pub going-all : (p q : Lines) (room : ℕ) → fitting p room ≡ length p → goingIn (p ++ q) room ≡ p ++ goingIn q (room - length (together p))
 unfolding goingIn
-going-all p q room e = ap (λ (k : ℕ). take k (p ++ q)) (fit_all p q room e) ∙ take-append-add p q (fitting q (room - length (together p)))
+going-all p q room e = ap (λ (k : ℕ). take k (p ++ q)) (fit-all p q room e) ∙ take-append-add p q (fitting q (room - length (together p)))
 
 pub going-part : (p q : Lines) (room : ℕ) → fitting p room < length p → goingIn (p ++ q) room ≡ goingIn p room
 unfolding goingIn

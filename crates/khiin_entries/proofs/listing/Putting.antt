@@ -8,17 +8,17 @@ use native.Mathlib.Omega.{arith}
 use lib.ListN.{length, take, drop, get_or, set, length-append, length-drop, take-append-drop, drop_of_length-le}
 use lib.Seq.{length-take-le, drop-cons, drop-drop, paste}
 use Rattle.ji.specs.Written.{Written}
-use Rattle.ji.proofs.Writing.{written-length, written-take, written-drop, written_one, written-run}
+use Rattle.ji.proofs.Writing.{written-length, written-take, written-drop, written-one, written-run}
 use Rattle.khiin_entries.specs.Listing.{together, fitting, goingIn}
 use Rattle.khiin_entries.specs.Lines.{Put, shownText, Shown, Following}
-use Rattle.khiin_entries.proofs.listing.Fitting.{together-append, fit-one, fit_none, fit-most, fit_all, fit-part, going-none, going-one, going-whole, going-all, going-part}
+use Rattle.khiin_entries.proofs.listing.Fitting.{together-append, fit-one, fit-none, fit-most, fit-all, fit-part, going-none, going-one, going-whole, going-all, going-part}
 
 -- ── texts
 pub put-start : (before : List ℕ) (at : ℕ) → at ≤ length before → Put before before at [] at
 put-start before at h = record { is = sym (take-append-drop at before); ends = omega arith; fits = h }
 
-pub put_as : {before after : List ℕ} {at : ℕ} {text text' : List ℕ} {end : ℕ} → text ≡ text' → Put before after at text end → Put before after at text' end
-put_as e h = rw (← e) h
+pub put-as : {before after : List ℕ} {at : ℕ} {text text' : List ℕ} {end : ℕ} → text ≡ text' → Put before after at text end → Put before after at text' end
+put-as e h = rw (← e) h
 
 pub put-to : {before after : List ℕ} {at : ℕ} {text : List ℕ} {end end' : ℕ} → end ≡ end' → Put before after at text end → Put before after at text end'
 put-to e h = rw (← e) h
@@ -48,15 +48,15 @@ module _ {before after : List ℕ} {at : ℕ} {text : List ℕ} {end : ℕ} (h :
       }
 
   -- one more byte, stored, or a text more
-  pub put_byte : (x : ℕ) → end < length before → Put before (set after end x) at (text ++ (x ∷ [])) (end + 1)
-  put_byte x room = cut (rw (← append_assoc (take at before) text (x ∷ [])) (written_one whole x room))
+  pub put-byte : (x : ℕ) → end < length before → Put before (set after end x) at (text ++ (x ∷ [])) (end + 1)
+  put-byte x room = cut (rw (← append_assoc (take at before) text (x ∷ [])) (written-one whole x room))
 
   pub put-run : (r : List ℕ) → end + length r ≤ length before → Put before (paste after end r (length r)) at (text ++ r) (end + length r)
   put-run r room = cut (rw (← append_assoc (take at before) text r) (written-run whole r room))
 
   -- what was put behind it
-  pub put_then : {later more : List ℕ} {last : ℕ} → Put after later end more last → Put before later at (text ++ more) last
-  put_then {later} {more} {last} g =
+  pub put-then : {later more : List ℕ} {last : ℕ} → Put after later end more last → Put before later at (text ++ more) last
+  put-then {later} {more} {last} g =
       let z : end + (last - end) ≡ last = omega (arith, g.ends) in
       let rest : drop last after ≡ drop last before = ap (λ (n : ℕ). drop n after) (sym z) ∙ sym (drop-drop (last - end) end after) ∙ ap (drop (last - end)) (written-drop whole) ∙ drop-drop (last - end) end before ∙ ap (λ (n : ℕ). drop n before) z in
       record {
@@ -104,7 +104,7 @@ module _ {ls : List (List ℕ)} {from at : ℕ} {before after : List ℕ} {p end
         rw (add-one p)
         (record {
           done = h.done ++ line;
-          put = put_then put g;
+          put = put-then put g;
           whole = append_assoc h.done line _ ∙ ap (λ (l : List ℕ). h.done ++ l) (sym text) ∙ h.whole;
           count = omega (arith, size, h.count);
         })
@@ -116,12 +116,12 @@ module _ {ls : List (List ℕ)} {from at : ℕ} {before after : List ℕ} {p end
       let text = ap together (going-none (drop p ls) (length before - end) none) in
       record {
         count = omega (arith, h.count);
-        text = put_as (sym (append-nil h.done) ∙ ap (λ (l : List ℕ). h.done ++ l) (sym text) ∙ h.whole) h.put;
+        text = put-as (sym (append-nil h.done) ∙ ap (λ (l : List ℕ). h.done ++ l) (sym text) ∙ h.whole) h.put;
       }
 
   pub showing-over : (more : p < length ls) (line : List ℕ) → get_or ls p [] ≡ line → length before - end < length line → Shown ls from at before after p end
   showing-over more line is k =
-      showing-end (ap (λ (l : List (List ℕ)). fitting l (length before - end)) (here more line is) ∙ fit_none line (drop (suc p) ls) (length before - end) k)
+      showing-end (ap (λ (l : List (List ℕ)). fitting l (length before - end)) (here more line is) ∙ fit-none line (drop (suc p) ls) (length before - end) k)
 
   pub showing-all : length ls ≤ p → Shown ls from at before after p end
   showing-all k = showing-end (ap (λ (l : List (List ℕ)). fitting l (length before - end)) (drop_of_length-le ls k))
@@ -157,21 +157,21 @@ module _ (p q : List (List ℕ)) (from at : ℕ) (before mid after : List ℕ) (
   late k =
       let most : fitting d room ≤ length d = fit-most d room in
       let all : fitting d room ≡ length d = omega (arith, h.count, d-length) in
-      let first : Put before mid at (together d) end = put_as (ap together (going-whole d room all)) h.text in
+      let first : Put before mid at (together d) end = put-as (ap together (going-whole d room all)) h.text in
       let n : length mid ≡ length before = put-length first in
       let at-end : end ≡ at + length (together d) = first.ends in
       let left : length mid - end ≡ room - length (together d) = omega arith in
       let skip : next - length p ≡ from - length p = omega (arith, h.count, d-length) in
       let s = g.late k in
-      let then : Put mid after end (together (goingIn e (room - length (together d)))) end' = put_as (ap₂ (λ (m r : ℕ). together (goingIn (drop m q) r)) skip left) s.1.text in
+      let then : Put mid after end (together (goingIn e (room - length (together d)))) end' = put-as (ap₂ (λ (m r : ℕ). together (goingIn (drop m q) r)) skip left) s.1.text in
       let behind : end' ≡ end + length (together (goingIn e (room - length (together d)))) = then.ends in
-      let size : fitting (drop from (p ++ q)) room ≡ length d + fitting e (room - length (together d)) = ap (λ (l : List (List ℕ)). fitting l room) (drop-both from p q) ∙ fit_all d e room all in
+      let size : fitting (drop from (p ++ q)) room ≡ length d + fitting e (room - length (together d)) = ap (λ (l : List (List ℕ)). fitting l room) (drop-both from p q) ∙ fit-all d e room all in
       let size-q : fitting (drop (next - length p) q) (length mid - end) ≡ fitting e (room - length (together d)) = ap₂ (λ (m r : ℕ). fitting (drop m q) r) skip left in
       let text : together (goingIn (drop from (p ++ q)) room) ≡ together d ++ together (goingIn e (room - length (together d))) =
       ap (λ (l : List (List ℕ)). together (goingIn l room)) (drop-both from p q) ∙ ap together (going-all d e room all) ∙ together-append d (goingIn e (room - length (together d))) in
       record {
         count = omega (arith, s.0, s.1.count, h.count, d-length);
-        text = put_as (sym text) (put_then first then);
+        text = put-as (sym text) (put-then first then);
       }
 
   -- a line of p did not go in
@@ -183,7 +183,7 @@ module _ (p q : List (List ℕ)) (from at : ℕ) (before mid after : List ℕ) (
       let size : fitting (drop from (p ++ q)) room ≡ fitting d room = ap (λ (l : List (List ℕ)). fitting l room) (drop-both from p q) ∙ fit-part d e room part in
       let text : together (goingIn (drop from (p ++ q)) room) ≡ together (goingIn d room) = ap (λ (l : List (List ℕ)). together (goingIn l room)) (drop-both from p q) ∙ ap together (going-part d e room part) in
       let same = g.early k in
-      rw (same.0, same.1, same.2) (record { count = omega (arith, h.count); text = put_as (sym text) h.text })
+      rw (same.0, same.1, same.2) (record { count = omega (arith, h.count); text = put-as (sym text) h.text })
 
   pub following : Shown (p ++ q) from at before after next' end'
   following = go (dec_le (length p) next)

@@ -6,7 +6,7 @@ use native.Mathlib.Nat.{zero-add}
 use native.Mathlib.Omega.{arith}
 use lib.ListN.{length, take, drop, get_or, set, length-append, length-set}
 use lib.Seq.{take_at, paste, length-paste}
-use Rattle.ji.specs.Utf8.{encode, bytes_of}
+use Rattle.ji.specs.Utf8.{encode, bytesOf}
 use Rattle.ji.specs.Reply.{refusalNumber}
 use Rattle.ji.specs.declared.reply.Refusal.{Refusal}
 use Rattle.ji.proofs.Writing.{stores-2}
@@ -15,16 +15,16 @@ use Rattle.khiin_entries.specs.Listing.{digitCount, decimal}
 use Rattle.khiin_entries.specs.Lines.{numberThen, headerLine, refusalLine, lineIn, linesIn, Put, Shown}
 use Rattle.khiin_entries.proofs.key_sequence.Laying.{keying-length, length-upTo, upTo-at}
 use Rattle.khiin_entries.proofs.listing.Decimal.{decimal-length}
-use Rattle.khiin_entries.proofs.listing.Fitting.{fit_none}
-use Rattle.khiin_entries.proofs.listing.Putting.{put-start, put_as, put-to, put-length, put_byte, put-run, put_then, showing-start, showing-next, showing-end, showing-all, shown-none}
+use Rattle.khiin_entries.proofs.listing.Fitting.{fit-none}
+use Rattle.khiin_entries.proofs.listing.Putting.{put-start, put-as, put-to, put-length, put-byte, put-run, put-then, showing-start, showing-next, showing-end, showing-all, shown-none}
 
 -- ── a number and a byte behind it
-pub number_put : (before after : List ℕ) (at n digits last : ℕ) → digits ≡ digitCount 19 n → at + digits < length before → after ≡ paste before at (decimal n) (length (decimal n)) → Put before (set after (at + digits) last) at (numberThen n last) (at + digits + 1)
+pub number-put : (before after : List ℕ) (at n digits last : ℕ) → digits ≡ digitCount 19 n → at + digits < length before → after ≡ paste before at (decimal n) (length (decimal n)) → Put before (set after (at + digits) last) at (numberThen n last) (at + digits + 1)
 unfolding numberThen
-number_put before after at n digits last e room is =
+number-put before after at n digits last e room is =
     let l : length (decimal n) ≡ digits = decimal-length n ∙ sym e in
     let h = put-run (put-start before at (omega arith)) (decimal n) (omega arith) in
-    rw (is, ← l) (put_byte h last (omega arith))
+    rw (is, ← l) (put-byte h last (omega arith))
 
 number-length : (n last : ℕ) → length (numberThen n last) ≡ digitCount 19 n + 1
 unfolding numberThen
@@ -67,12 +67,12 @@ module _ (letter : ℕ) (forms : List ℕ) (offsets lengths : List (List ℕ)) (
     unfolding lineIn
     line-put before numbered written at mid n e room more g is =
         let start : Put before (set (set before at letter) (at + 1) 0x20) at (letter ∷ 0x20 ∷ []) (at + 2) = rw (stores-2 before at letter 0x20 room) (put-run (put-start before at (omega arith)) (letter ∷ 0x20 ∷ []) room) in
-        let head : Put before numbered at ((letter ∷ 0x20 ∷ []) ++ numberThen position 0x20) mid = put_then start g in
+        let head : Put before numbered at ((letter ∷ 0x20 ∷ []) ++ numberThen position 0x20) mid = put-then start g in
         let l : n ≡ length key = e ∙ sym key-length in
         let back : mid + n - lengthIn lengths radices parts position ≡ mid = omega arith in
         let keyed : Put before written at ((letter ∷ 0x20 ∷ []) ++ numberThen position 0x20 ++ key) (mid + n) = rw (is, back, ← e, l) (put-run head key (omega arith)) in
-        put_as {text = (letter ∷ 0x20 ∷ []) ++ numberThen position 0x20 ++ key ++ (0x0A ∷ [])} (append_assoc ((letter ∷ 0x20 ∷ []) ++ numberThen position 0x20) key (0x0A ∷ []) ∙ append_assoc (letter ∷ 0x20 ∷ []) (numberThen position 0x20) (key ++ (0x0A ∷ [])))
-        (put_byte keyed 0x0A more)
+        put-as {text = (letter ∷ 0x20 ∷ []) ++ numberThen position 0x20 ++ key ++ (0x0A ∷ [])} (append_assoc ((letter ∷ 0x20 ∷ []) ++ numberThen position 0x20) key (0x0A ∷ []) ∙ append_assoc (letter ∷ 0x20 ∷ []) (numberThen position 0x20) (key ++ (0x0A ∷ [])))
+        (put-byte keyed 0x0A more)
 
 -- ── the lines of a kind
 module _ (letter : ℕ) (forms : List ℕ) (offsets lengths : List (List ℕ)) (radices : List ℕ) (parts count : ℕ) where
@@ -91,25 +91,25 @@ cut {before} {after} {text} {end} h =
     ap (take (end - 0)) h.is ∙ take_at text (drop end before) (end - 0) e
 
 -- the same line
-pub line_as : {line line' : List ℕ} {from at : ℕ} {before after : List ℕ} {next end : ℕ} → line ≡ line' → Shown (line ∷ []) from at before after next end → Shown (line' ∷ []) from at before after next end
-line_as e h = rw (← e) h
+pub line-as : {line line' : List ℕ} {from at : ℕ} {before after : List ℕ} {next end : ℕ} → line ≡ line' → Shown (line ∷ []) from at before after next end → Shown (line' ∷ []) from at before after next end
+line-as e h = rw (← e) h
 
 -- the header's
 pub header-cut : {x x1 x2 x3 x4 x5 : List ℕ} {a b c d end : ℕ} (parts dots numeric telex detoned : ℕ)
     → Put x x1 0 (numberThen parts 0x20) a → Put x1 x2 a (numberThen dots 0x20) b → Put x2 x3 b (numberThen numeric 0x20) c → Put x3 x4 c (numberThen telex 0x20) d → Put x4 x5 d (numberThen detoned 0x0A) end
     → take (end - 0) (drop 0 x5) ≡ headerLine parts dots numeric telex detoned
-unfolding headerLine numberThen encode bytes_of
-header-cut parts dots numeric telex detoned h g k l m = cut (put_then (put_then (put_then (put_then h g) k) l) m) ∙ simp append_assoc
+unfolding headerLine numberThen encode bytesOf
+header-cut parts dots numeric telex detoned h g k l m = cut (put-then (put-then (put-then (put-then h g) k) l) m) ∙ simp append_assoc
 
 -- a refusal's
 abbrev word : List ℕ
 word = 0x72 ∷ 0x65 ∷ 0x66 ∷ 0x75 ∷ 0x73 ∷ 0x65 ∷ 0x64 ∷ 0x20 ∷ []
 
 pub refusal-cut : (mid rest : List ℕ) {after : List ℕ} {end : ℕ} (why : Refusal) (number : ℕ) → number ≡ refusalNumber why → mid ≡ word ++ rest → Put mid after 8 (numberThen number 0x0A) end → take (end - 0) (drop 0 after) ≡ refusalLine why
-unfolding refusalLine numberThen encode bytes_of
+unfolding refusalLine numberThen encode bytesOf
 refusal-cut mid rest why number n is h =
     let start : Put mid mid 0 word 8 = record { is = is ∙ ap (λ (l : List ℕ). word ++ l) (sym (ap (drop 8) is)); ends = omega arith; fits = omega (arith, ap length is) } in
-    cut (put_then start h) ∙ ap (λ (k : ℕ). word ++ (decimal k ++ (0x0A ∷ []))) n
+    cut (put-then start h) ∙ ap (λ (k : ℕ). word ++ (decimal k ++ (0x0A ∷ []))) n
 
 -- ── the first line of a listing
 module _ (line : List ℕ) (from : ℕ) (before : List ℕ) where
@@ -117,13 +117,13 @@ module _ (line : List ℕ) (from : ℕ) (before : List ℕ) where
   first-passed h = shown-none (line ∷ []) from 0 before (omega arith) (omega arith)
 
   module _ (none : from ≤ 0) where
-    is_zero : from ≡ 0
-    is_zero = omega arith
+    is-zero : from ≡ 0
+    is-zero = omega arith
 
     pub first-over : length before < length line → Shown (line ∷ []) from 0 before before 0 0
-    first-over h = rw is_zero (showing-end (showing-start (line ∷ []) 0 0 before (omega arith)) (fit_none line [] (length before - 0) (omega arith)))
+    first-over h = rw is-zero (showing-end (showing-start (line ∷ []) 0 0 before (omega arith)) (fit-none line [] (length before - 0) (omega arith)))
 
     pub first-put : (after : List ℕ) → length line ≤ length before → after ≡ paste before 0 line (length line) → Shown (line ∷ []) from 0 before after 1 (length line)
     first-put after room is =
         let put : Put before after 0 line (length line) = rw is (put-to (zero-add (length line)) (put-run (put-start before 0 (omega arith)) line (omega arith))) in
-        rw is_zero (showing-all (showing-next (showing-start (line ∷ []) 0 0 before (omega arith)) (omega arith) line refl after (length line) put) (omega arith))
+        rw is-zero (showing-all (showing-next (showing-start (line ∷ []) 0 0 before (omega arith)) (omega arith) line refl after (length line) put) (omega arith))

@@ -1,7 +1,7 @@
 use lib.ListN.{length}
 use Rattle.ji.specs.Unicode.{unicode16}
 use Rattle.khiin_entries.specs.Listing.{together, shown}
-use Rattle.lister.proofs.Laws.{block_inside, next-inside}
+use Rattle.lister.proofs.Laws.{block-inside, next-inside}
 use borrow.Author.Rules.{rules}
 use Rattle.lister.proofs.print_block.Statement.{statement}
 use Rattle.lister.proofs.print_block.Tie as tie
@@ -19,13 +19,13 @@ part-write-all-end : tie.Need-slice-bounds-write-all-end
 part-write-all-end c =
     let l = c.before.before.before.before in
     let a = l.before.before.before.before.args in
-    block_inside (together (shown unicode16 a.entry.now a.from (length a.block.now))) a.block.now _ _ l.list.ensures.1 l.list.ensures.2 (search rules)
+    block-inside (together (shown unicode16 a.entry.now a.from (length a.block.now))) a.block.now _ _ l.list.ensures.1 l.list.ensures.2 (search rules)
 
 write-all-requires : tie.Need-write-all-requires
 write-all-requires c κs = search rules
 
-same_length : tie.Need-same-length
-same_length c = search rules
+same-length : tie.Need-same-length
+same-length c = search rules
 
 returns : tie.Need-returns
 returns c =
@@ -47,7 +47,7 @@ print-block-spec =
     part-write-all-start
     part-write-all-end
     write-all-requires
-    same_length
+    same-length
     returns
     same-length-2
     returns-2)

@@ -13,22 +13,22 @@ use Rattle.lister.proofs.without_newline.Tie as tie
 
 -- by the last byte
 module _ (s : List ℕ) where
-  with_newline : get_or s (length s - 1) 0 ≡ 0x0A → take (length s - 1 - 0) s ≡ withoutNewline s
+  with-newline : get_or s (length s - 1) 0 ≡ 0x0A → take (length s - 1 - 0) s ≡ withoutNewline s
   unfolding withoutNewline
-  with_newline e =
+  with-newline e =
       let z : length s - 1 - 0 ≡ length s - 1 = omega arith in
       ap (λ (n : ℕ). take n s) z ∙ sym (ap (λ (b : Bool). pickText b (take (length s - 1) s) s) (eq-eqb (get_or s (length s - 1) 0) 0x0A e))
 
-  with_none : (get_or s (length s - 1) 0 ≡ 0x0A → ⊥) → s ≡ withoutNewline s
+  with-none : (get_or s (length s - 1) 0 ≡ 0x0A → ⊥) → s ≡ withoutNewline s
   unfolding withoutNewline
-  with_none ne = sym (ap (λ (b : Bool). pickText b (take (length s - 1) s) s) (ne_eqb (get_or s (length s - 1) 0) 0x0A ne))
+  with-none ne = sym (ap (λ (b : Bool). pickText b (take (length s - 1) s) s) (ne_eqb (get_or s (length s - 1) 0) 0x0A ne))
 
-with_nothing : (s : List ℕ) → length s ≡ 0 → s ≡ withoutNewline s
-with_nothing [] e = with_none [] (λ k. omega arith)
-with_nothing (b ∷ s) e = absurd (omega arith)
+with-nothing : (s : List ℕ) → length s ≡ 0 → s ≡ withoutNewline s
+with-nothing [] e = with-none [] (λ k. omega arith)
+with-nothing (b ∷ s) e = absurd (omega arith)
 
 returns : tie.Need-returns
-returns c = with_nothing c.before.args.text.now c.if1.true
+returns c = with-nothing c.before.args.text.now c.if1.true
 
 sub-last : tie.Need-overflow-sub-last
 sub-last c = search rules
@@ -46,10 +46,10 @@ part-result-end : tie.Need-slice-bounds-result-end
 part-result-end c = search rules
 
 returns-2 : tie.Need-returns-2
-returns-2 c = with_newline c.before.before.before.before.args.text.now c.before.if2.true
+returns-2 c = with-newline c.before.before.before.before.args.text.now c.before.if2.true
 
 returns-3 : tie.Need-returns-3
-returns-3 c = with_none c.before.before.before.args.text.now c.if2.false
+returns-3 c = with-none c.before.before.before.args.text.now c.if2.false
 
 pub without-newline-spec : {M : Type 1} → statement M
 without-newline-spec =

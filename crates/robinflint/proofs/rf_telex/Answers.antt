@@ -8,7 +8,7 @@ use Rattle.ji.specs.Unicode.{unicode16}
 use Rattle.ji.specs.Text.{within}
 use Rattle.ji.specs.Reply.{refused, pickReply, textCall}
 use Rattle.ji.specs.declared.reply.Refusal.TheVariants.{Argument}
-use Rattle.ji.proofs.Bools.{either, and_no, within-above}
+use Rattle.ji.proofs.Bools.{either, and-no, within-above}
 use Rattle.khiin.specs.Converter.{settingsFit, telex, telexCall}
 use Rattle.robinflint.specs.Arguments.{mode_of, keysOf, telexNumbered}
 use Rattle.robinflint.proofs.rf_telex.Goals as goal
@@ -21,7 +21,7 @@ by-test text key mode keys buffer b e = ap (λ (x : Bool). pickReply x (telexCal
 high-key : (text : List ℕ) (key mode : ℕ) (keys buffer : List ℕ) → 0x7E < key → refused Argument buffer ≡ telexNumbered text key mode keys buffer
 unfolding telexCall
 high-key text key mode keys buffer h =
-    let no : telexCall unicode16 (mode_of mode) (keysOf keys) key text buffer ≡ refused Argument buffer = ap (λ (b : Bool). pickReply b (textCall unicode16 (telex unicode16 (mode_of mode) (keysOf keys) key) text buffer) (refused Argument buffer)) (and_no (within 0x20 0x7E key) (settingsFit (keysOf keys)) (within-above 0x20 0x7E key h)) in
+    let no : telexCall unicode16 (mode_of mode) (keysOf keys) key text buffer ≡ refused Argument buffer = ap (λ (b : Bool). pickReply b (textCall unicode16 (telex unicode16 (mode_of mode) (keysOf keys) key) text buffer) (refused Argument buffer)) (and-no (within 0x20 0x7E key) (settingsFit (keysOf keys)) (within-above 0x20 0x7E key h)) in
     either (leb mode 1)
     (λ e. sym no ∙ by-test text key mode keys buffer true e)
     (λ e. by-test text key mode keys buffer false e)

@@ -2,7 +2,7 @@
 -- the two code points. Assumes nothing.
 use native.Mathlib.Omega.{arith}
 use Rattle.ucd.proofs.Unicode16.{no-composite}
-use Rattle.ucd.proofs.Answer.{made_itself, made_one, made-two, made-other-first, made-other-second}
+use Rattle.ucd.proofs.Answer.{made-itself, made-one, made-two, made-other-first, made-other-second}
 use Rattle.ucd.proofs.composite.Goals as goal
 
 pub returns-then-b-lt768 : goal.returns-then-b-lt768
@@ -19,13 +19,13 @@ returns-then-second-b c =
 
 pub returns-in-Itself : goal.returns-in-Itself
 returns-in-Itself c =
-    made_itself c.args.a c.args.b c.candidate-p.result c.decomposition.result
+    made-itself c.args.a c.args.b c.candidate-p.result c.decomposition.result
     c.decomposition.ensures c.candidate-p.ensures
     c.in-Itself.is
 
 pub returns-in-One : goal.returns-in-One
 returns-in-One c =
-    made_one c.args.a c.args.b c.candidate-p.result c.decomposition.result
+    made-one c.args.a c.args.b c.candidate-p.result c.decomposition.result
     c.decomposition.ensures c.candidate-p.ensures
     c.in-One.field-0 c.in-One.is
 

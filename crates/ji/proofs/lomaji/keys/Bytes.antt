@@ -11,11 +11,11 @@ use lib.ListN.{length, take, drop, get_or, length-append}
 use Rattle.ucd.specs.Table.{Table, All, Atom, inRanges, mappingIn, decomposition}
 use Rattle.ucd.specs.Full.{pass, passes, full}
 use Rattle.ucd.specs.Unicode16.{unicode16, mappings16}
-use Rattle.ucd.proofs.Tests.{each, each_all}
+use Rattle.ucd.proofs.Tests.{each, each-all}
 use Rattle.ucd.proofs.Lists.{eachMapping, mapping-passes}
 use Rattle.ucd.proofs.Facts.{atom-full}
 use Rattle.ji.specs.Text.{points, replaceAll, begins}
-use Rattle.ji.specs.Utf8.{bytes_of, encode}
+use Rattle.ji.specs.Utf8.{bytesOf, encode}
 use Rattle.ji.specs.Nfd.{insert, order, nfd, reorderable}
 use Rattle.ji.specs.Tone.{toneNumber}
 use Rattle.ji.specs.Lomaji.Strip.{isToneMark, withoutMarks, stripped, strip}
@@ -26,11 +26,11 @@ use Rattle.ji.specs.declared.lomaji.keys.Form.{Form}
 use Rattle.ji.specs.declared.lomaji.keys.Form.TheVariants.{Plain, Oo}
 use Rattle.ji.specs.declared.lomaji.keys.Kind.{Kind}
 use Rattle.ji.specs.declared.lomaji.keys.Kind.TheVariants.{Detoned, Numeric, Telex}
-use Rattle.ji.proofs.Bools.{either, false-true, and_left, and_right, text-yes, text-no}
+use Rattle.ji.proofs.Bools.{either, false-true, and-left, and-right, text-yes, text-no}
 use Rattle.ji.proofs.Decomposition.{full-nil, full-cons}
 use Rattle.ji.proofs.Order.{insert-nil, insert-past, insert-here, order-nil, order-cons}
 use Rattle.ji.proofs.text.Laws.{begins-split, replace-nil, replace-hit, replace-miss, replace-induction}
-use Rattle.ji.proofs.utf8.Encoding.{bytes_one, encode-nil, encode-cons, encode-append}
+use Rattle.ji.proofs.utf8.Encoding.{bytes-one, encode-nil, encode-cons, encode-append}
 
 -- ── the key of the tone
 -- the ten keys of a kind are ASCII
@@ -38,7 +38,7 @@ abbrev Ascii : List ℕ → Type 0
 Ascii l = T (each (λ c. leb c 0x7F) l)
 
 ascii-at : (l : List ℕ) → Ascii l → (n : ℕ) → get_or l n 0 ≤ 0x7F
-ascii-at l h n = go l (each_all (λ c. leb c 0x7F) (λ c. c ≤ 0x7F) (λ c. leb→le c 0x7F) l h) n
+ascii-at l h n = go l (each-all (λ c. leb c 0x7F) (λ c. c ≤ 0x7F) (λ c. leb→le c 0x7F) l h) n
   where
     go : (l : List ℕ) → All (λ c. c ≤ 0x7F) l → (n : ℕ) → get_or l n 0 ≤ 0x7F
     go [] h n = omega arith
@@ -89,7 +89,7 @@ module _ (t : Table) (form : Form) (kind : Kind) (s : List ℕ) where
         let k = addedKey t kind s in
         ap encode added
         ∙ encode-append (keys t form Detoned s) (k ∷ [])
-        ∙ ap (λ (l : List ℕ). encode (keys t form Detoned s) ++ l) (encode-cons k [] ∙ ap₂ ◌++◌ (bytes_one k (ascii-at (toneKeys kind) ascii (toneNumber (strip t s).tone))) encode-nil)
+        ∙ ap (λ (l : List ℕ). encode (keys t form Detoned s) ++ l) (encode-cons k [] ∙ ap₂ ◌++◌ (bytes-one k (ascii-at (toneKeys kind) ascii (toneNumber (strip t s).tone))) encode-nil)
 
 -- keys of this kind end in the key of the tone
 abbrev pub isToned : Kind → Bool
@@ -107,9 +107,9 @@ toned-bytes t form Telex s e = added-byte t form Telex s refl tt
 bytes : List ℕ → ℕ
 bytes s = length (encode s)
 
-bytes-cons : (c : ℕ) (s : List ℕ) → bytes (c ∷ s) ≡ length (bytes_of c) + bytes s
+bytes-cons : (c : ℕ) (s : List ℕ) → bytes (c ∷ s) ≡ length (bytesOf c) + bytes s
 unfolding bytes
-bytes-cons c s = ap length (encode-cons c s) ∙ length-append (bytes_of c) (encode s)
+bytes-cons c s = ap length (encode-cons c s) ∙ length-append (bytesOf c) (encode s)
 
 bytes-append : (s u : List ℕ) → bytes (s ++ u) ≡ bytes s + bytes u
 unfolding bytes
@@ -121,7 +121,7 @@ bytes-nil = ap length encode-nil
 
 -- canonical order keeps them
 module _ (t : Table) where
-  insert-bytes : (a : ℕ) (s : List ℕ) → bytes (insert t a s) ≡ length (bytes_of a) + bytes s
+  insert-bytes : (a : ℕ) (s : List ℕ) → bytes (insert t a s) ≡ length (bytesOf a) + bytes s
   insert-bytes a [] = ap bytes (insert-nil t a) ∙ bytes-cons a []
   insert-bytes a (b ∷ s) =
       either (reorderable t a b)
@@ -130,7 +130,7 @@ module _ (t : Table) where
 
   order-bytes : (s : List ℕ) → bytes (order t s) ≡ bytes s
   order-bytes [] = ap bytes (order-nil t)
-  order-bytes (a ∷ s) = ap bytes (order-cons t a s) ∙ insert-bytes a (order t s) ∙ ap (λ (n : ℕ). length (bytes_of a) + n) (order-bytes s) ∙ sym (bytes-cons a s)
+  order-bytes (a ∷ s) = ap bytes (order-cons t a s) ∙ insert-bytes a (order t s) ∙ ap (λ (n : ℕ). length (bytesOf a) + n) (order-bytes s) ∙ sym (bytes-cons a s)
 
 -- dropping marks takes some away
 without-bytes : (s : List ℕ) → bytes (withoutMarks s) ≤ bytes s
@@ -160,29 +160,29 @@ respell-bytes (r ∷ rs) h s =
     omega (arith, respell-bytes rs h.2 (replaceAll r.0 r.1 s), replace-bytes r.0 r.1 h.0 h.1 s)
 
 rules-fewer : (f : Form) → Fewer (rulesOf f)
-unfolding bytes encode bytes_of
+unfolding bytes encode bytesOf
 rules-fewer Plain = (omega arith, omega arith, (omega arith, omega arith, (omega arith, omega arith, (omega arith, omega arith, (omega arith, omega arith, (omega arith, omega arith, tt))))))
 rules-fewer Oo = (omega arith, omega arith, (omega arith, omega arith, (omega arith, omega arith, (omega arith, omega arith, (omega arith, omega arith, (omega arith, omega arith, tt))))))
 
 -- a code point decomposes to at most five bytes for each two of its own
 fiveForTwo : ℕ → List ℕ → Bool
-fiveForTwo c text = leb (2 * bytes (full unicode16 (c ∷ []))) (5 * length (bytes_of c))
+fiveForTwo c text = leb (2 * bytes (full unicode16 (c ∷ []))) (5 * length (bytesOf c))
 
 five-for-two : T (eachMapping fiveForTwo mappings16)
-unfolding fiveForTwo bytes encode bytes_of mappingIn decomposition pass passes full unicode16 mappings16
+unfolding fiveForTwo bytes encode bytesOf mappingIn decomposition pass passes full unicode16 mappings16
 five-for-two = tt
 
 five-or-atom : (c : ℕ) → Atom unicode16 c ⊎ T (fiveForTwo c (decomposition unicode16 c))
 unfolding decomposition unicode16
 five-or-atom c = mapping-passes fiveForTwo mappings16 five-for-two c
 
-full-bytes-one : (c : ℕ) → 2 * bytes (full unicode16 (c ∷ [])) ≤ 5 * length (bytes_of c)
+full-bytes-one : (c : ℕ) → 2 * bytes (full unicode16 (c ∷ [])) ≤ 5 * length (bytesOf c)
 unfolding fiveForTwo
 full-bytes-one c = go (five-or-atom c)
   where
-    go : Atom unicode16 c ⊎ T (fiveForTwo c (decomposition unicode16 c)) → 2 * bytes (full unicode16 (c ∷ [])) ≤ 5 * length (bytes_of c)
+    go : Atom unicode16 c ⊎ T (fiveForTwo c (decomposition unicode16 c)) → 2 * bytes (full unicode16 (c ∷ [])) ≤ 5 * length (bytesOf c)
     go (inl e) = rw (atom-full unicode16 c e) (omega (arith, bytes-cons c [], bytes-nil))
-    go (inr h) = leb→le (2 * bytes (full unicode16 (c ∷ []))) (5 * length (bytes_of c)) h
+    go (inr h) = leb→le (2 * bytes (full unicode16 (c ∷ []))) (5 * length (bytesOf c)) h
 
 full-bytes : (s : List ℕ) → 2 * bytes (full unicode16 s) ≤ 5 * bytes s
 full-bytes [] = rw (full-nil unicode16) (omega arith)

@@ -23,8 +23,8 @@ use Rattle.ji.specs.declared.lomaji.keys.ToneKey.TheVariants.{Nothing, Key}
 use Rattle.ji.proofs.Bools.{either, false-true}
 use Rattle.ji.proofs.text.Laws.{begins-split, replace-none, replace-same-length, points-growth}
 use Rattle.ji.proofs.utf8.Encoding.{encode-append}
-use Rattle.ji.proofs.unicode.Ascii.{ascii_take, ascii_drop, ascii-bytes, ascii-good}
-use Rattle.ji.proofs.unicode.Checked.{bytes_good, good-same}
+use Rattle.ji.proofs.unicode.Ascii.{ascii-take, ascii-drop, ascii-bytes, ascii-good}
+use Rattle.ji.proofs.unicode.Checked.{bytes-good, good-same}
 
 -- ── the rules in three parts: o and O with U+0358, U+207F and U+1D3A, o and u with U+0324. The forms differ in the first alone
 pub respell-parts : (f : Form) (s : List ℕ) → respell (rulesOf f) s ≡ respell (drop 4 plainRules) (respell (take 2 (drop 2 plainRules)) (respell (take 2 (rulesOf f)) s))
@@ -82,12 +82,12 @@ keys-are f k s tone key e told =
 -- ── ASCII letters, which no rule acts on
 -- a pattern with another code point begins no part of them
 foreign : (p r s : List ℕ) → allAscii p ≡ false → allAscii s ≡ true → replaceAll p r s ≡ s
-foreign p r s other h = replace-none p r s (λ i _. either (begins p (drop i s)) (λ y. absurd (false-true (sym other ∙ its_own i y))) (λ n. n))
+foreign p r s other h = replace-none p r s (λ i _. either (begins p (drop i s)) (λ y. absurd (false-true (sym other ∙ its-own i y))) (λ n. n))
   where
-    its_own : (i : ℕ) → begins p (drop i s) ≡ true → allAscii p ≡ true
-    its_own i y =
+    its-own : (i : ℕ) → begins p (drop i s) ≡ true → allAscii p ≡ true
+    its-own i y =
         ap allAscii (sym (ap (take (length p)) (begins-split p (drop i s) y) ∙ take_at p (drop (length p) (drop i s)) (length p) refl))
-        ∙ ascii_take (length p) (drop i s) (ascii_drop i s h)
+        ∙ ascii-take (length p) (drop i s) (ascii-drop i s h)
 
 abbrev Foreign : List (List ℕ × List ℕ) → Type 0
 Foreign [] = Unit {0}
@@ -111,8 +111,8 @@ tones-ascii Telex = refl
 -- the keys of a stripped text whose bytes are ASCII: these, and the key of the tone
 pub ascii-keys : (f : Form) (k : Kind) (n : ℕ) (rest bytes key : List ℕ) → members unicode16 rest ≡ true → bytes ≡ encode rest → allAscii bytes ≡ true → key ≡ take 1 (drop n (toneKeys k)) → bytes ++ key ≡ encode (respell (rulesOf f) rest ++ key)
 ascii-keys f k n rest bytes key inside is h told =
-    let itself : rest ≡ bytes = good-same (sym (bytes_good bytes rest inside is) ∙ ascii-good bytes h) in
-    let low : allAscii key ≡ true = ap allAscii told ∙ ascii_take 1 (drop n (toneKeys k)) (ascii_drop n (toneKeys k) (tones-ascii k)) in
+    let itself : rest ≡ bytes = good-same (sym (bytes-good bytes rest inside is) ∙ ascii-good bytes h) in
+    let low : allAscii key ≡ true = ap allAscii told ∙ ascii-take 1 (drop n (toneKeys k)) (ascii-drop n (toneKeys k) (tones-ascii k)) in
     ap₂ (λ (a b : List ℕ). a ++ b) is (sym (ascii-bytes key low))
     ∙ sym (encode-append rest key)
     ∙ ap (λ (l : List ℕ). encode (l ++ key)) (sym (ascii-rules (rulesOf f) (rules-foreign f) rest (ap allAscii itself ∙ h)))

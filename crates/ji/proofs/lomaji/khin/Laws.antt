@@ -8,11 +8,11 @@ use lib.Dec.{eqb}
 use lib.ListN.{length, take, drop, get_or, length-drop}
 use lib.Seq.{take_all}
 use Rattle.ji.specs.Text.{points, begins}
-use Rattle.ji.specs.Utf8.{bytes_of, encode, bytes}
+use Rattle.ji.specs.Utf8.{bytesOf, encode, bytes}
 use Rattle.ji.specs.Lomaji.Khin.{pickKhin, afterMark, afterKhin, khinOf, withoutKhin, khinIn}
 use Rattle.ji.specs.declared.lomaji.khin.Khin.TheVariants.{No, Yes}
 use Rattle.ji.proofs.utf8.OneToOne.{begins-bytes, drop-bytes}
-use Rattle.ji.proofs.Bools.{false-true, either, and-true, and-false, and_right, or_yes, or_no, text-yes, text-no}
+use Rattle.ji.proofs.Bools.{false-true, either, and-true, and-false, and-right, or-yes, or-no, text-yes, text-no}
 
 -- ── a text that begins with two bytes
 pub begins-short : (a b : ℕ) (s : List ℕ) → length s < 2 → begins (a ∷ b ∷ []) s ≡ false
@@ -32,7 +32,7 @@ pub begins-fits : (p s : List ℕ) → begins p s ≡ true → length p ≤ leng
 unfolding begins
 begins-fits [] s e = omega arith
 begins-fits (a ∷ p) [] e = absurd (false-true e)
-begins-fits (a ∷ p) (x ∷ s) e = let rest = begins-fits p s (and_right (eqb x a) (begins p s) e) in omega arith
+begins-fits (a ∷ p) (x ∷ s) e = let rest = begins-fits p s (and-right (eqb x a) (begins p s) e) in omega arith
 
 -- ── the two marks
 -- the text has one of them
@@ -40,21 +40,21 @@ abbrev pub marked : List ℕ → Bool
 marked s = begins (bytes "--") s || begins (bytes "·") s
 
 pub marked-is : (s : List ℕ) → marked s ≡ (begins (0x2D ∷ 0x2D ∷ []) s || begins (0xC2 ∷ 0xB7 ∷ []) s)
-unfolding encode bytes_of
+unfolding encode bytesOf
 marked-is s = refl
 
 pub marked-fits : (s : List ℕ) → marked s ≡ true → 2 ≤ length s
-unfolding encode bytes_of
-marked-fits s e = either (begins (bytes "--") s) (λ h. begins-fits (bytes "--") s h) (λ h. begins-fits (bytes "·") s (sym (or_no _ _ h) ∙ e))
+unfolding encode bytesOf
+marked-fits s e = either (begins (bytes "--") s) (λ h. begins-fits (bytes "--") s h) (λ h. begins-fits (bytes "·") s (sym (or-no _ _ h) ∙ e))
 
 pub after-mark : (s : List ℕ) → marked s ≡ true → afterKhin s ≡ drop 2 s
-unfolding afterKhin encode bytes_of
-after-mark s e = either (begins (bytes "--") s) (λ h. text-yes _ _ _ h) (λ h. text-no _ _ _ h ∙ text-yes _ _ _ (sym (or_no _ _ h) ∙ e))
+unfolding afterKhin encode bytesOf
+after-mark s e = either (begins (bytes "--") s) (λ h. text-yes _ _ _ h) (λ h. text-no _ _ _ h ∙ text-yes _ _ _ (sym (or-no _ _ h) ∙ e))
 
-pub after_none : (s : List ℕ) → marked s ≡ false → afterKhin s ≡ s
+pub after-none : (s : List ℕ) → marked s ≡ false → afterKhin s ≡ s
 unfolding afterKhin
-after_none s e =
-    either (begins (bytes "--") s) (λ h. absurd (false-true (sym e ∙ or_yes _ _ h))) (λ h. text-no _ _ _ h ∙ text-no _ _ _ (sym (or_no _ _ h) ∙ e))
+after-none s e =
+    either (begins (bytes "--") s) (λ h. absurd (false-true (sym e ∙ or-yes _ _ h))) (λ h. text-no _ _ _ h ∙ text-no _ _ _ (sym (or-no _ _ h) ∙ e))
 
 -- the part of a slice from the mark's end on
 pub part-after : (s : List ℕ) → marked s ≡ true → take (length s - 2) (drop 2 s) ≡ afterKhin s
@@ -70,7 +70,7 @@ khin-no s e = ap (λ (b : Bool). pickKhin b Yes No) e
 
 pub after-khin-length : (s : List ℕ) → length (afterKhin s) ≤ length s
 after-khin-length s =
-    either (marked s) (λ e. rw (after-mark s e) (simp length-drop (omega arith))) (λ e. rw (after_none s e) (omega arith))
+    either (marked s) (λ e. rw (after-mark s e) (simp length-drop (omega arith))) (λ e. rw (after-none s e) (omega arith))
 
 -- ── the bytes of a text, and its code points
 after-bytes : (hyphens dot s : List ℕ) → afterMark (encode hyphens) (encode dot) (encode s) ≡ encode (afterMark hyphens dot s)

@@ -11,11 +11,11 @@ use lib.Seq.{paste}
 use Rattle.ucd.specs.Table.{Table, same, member, decomposition, combiningClass, classIn}
 use Rattle.ucd.specs.Full.{full}
 use Rattle.ucd.specs.Unicode16.{unicode16, classes16}
-use Rattle.ucd.proofs.Tests.{passes-true, both_left, both_right, same-equal}
+use Rattle.ucd.proofs.Tests.{passes-true, both-left, both-right, same-equal}
 use Rattle.ucd.proofs.Lists.{eachClass, class-passes}
 use Rattle.ucd.proofs.Unicode16.{low-atom, low-starter, full-itself, full-two}
 use Rattle.ji.specs.Written.{Written}
-use Rattle.ji.specs.Utf8.{width_at, pointAt, ReadOf, bytes_of, encode}
+use Rattle.ji.specs.Utf8.{widthAt, pointAt, ReadOf, bytesOf, encode}
 use Rattle.ji.specs.Tone.{isTone}
 use Rattle.ji.specs.Nfd.{Reorderable, NoPair, Ordered, order, nfd}
 use Rattle.ji.specs.Lomaji.Strip.{markTone, isToneMark, withoutMarks, droppedMarks, lastTone}
@@ -25,12 +25,12 @@ use Rattle.ji.specs.declared.tone.Tone.TheVariants.{None}
 use Rattle.ji.specs.declared.lomaji.quick.Progress.{Progress}
 use Rattle.ji.specs.declared.lomaji.quick.Outcome.TheVariants.{Whole}
 use Rattle.ji.proofs.Bools.{either, false-true}
-use Rattle.ji.proofs.Writing.{written_none, written_one, written-run, written-length}
+use Rattle.ji.proofs.Writing.{written-none, written-one, written-run, written-length}
 use Rattle.ji.proofs.Decomposition.{full-nil, full-append}
-use Rattle.ji.proofs.unicode.Reader.{width-within, Taken, taken_start, taken_more, taken-end}
-use Rattle.ji.proofs.utf8.Encoding.{bytes_one, encode-more}
+use Rattle.ji.proofs.unicode.Reader.{width-within, Taken, taken-start, taken-more, taken-end}
+use Rattle.ji.proofs.utf8.Encoding.{bytes-one, encode-more}
 use Rattle.ji.proofs.lomaji.strip.Laws.{mark-is, no-mark}
-use Rattle.ji.proofs.lomaji.strip.Commuting.{without-mark, without_other, dropped-mark, dropped-other, nfd-without, nfd-dropped}
+use Rattle.ji.proofs.lomaji.strip.Commuting.{without-mark, without-other, dropped-mark, dropped-other, nfd-without, nfd-dropped}
 
 -- ── order, with one code point more at the end
 module _ (t : Table) where
@@ -74,7 +74,7 @@ without-append [] u = refl
 without-append (c ∷ s) u =
     either (isToneMark c)
     (λ e. without-mark c (s ++ u) e ∙ without-append s u ∙ ap (λ (l : List ℕ). l ++ withoutMarks u) (sym (without-mark c s e)))
-    (λ e. without_other c (s ++ u) e ∙ ap (λ (l : List ℕ). c ∷ l) (without-append s u) ∙ ap (λ (l : List ℕ). l ++ withoutMarks u) (sym (without_other c s e)))
+    (λ e. without-other c (s ++ u) e ∙ ap (λ (l : List ℕ). c ∷ l) (without-append s u) ∙ ap (λ (l : List ℕ). l ++ withoutMarks u) (sym (without-other c s e)))
 
 pub dropped-append : (s u : List ℕ) → droppedMarks (s ++ u) ≡ droppedMarks s ++ droppedMarks u
 unfolding droppedMarks
@@ -102,7 +102,7 @@ module _ (s : List ℕ) (x : ℕ) where
   without-last-mark e = without-append s (x ∷ []) ∙ ap (λ (l : List ℕ). withoutMarks s ++ l) (without-mark x [] e ∙ nil-without) ∙ append-nil (withoutMarks s)
 
   without-last : isToneMark x ≡ false → withoutMarks (s ++ (x ∷ [])) ≡ withoutMarks s ++ (x ∷ [])
-  without-last e = without-append s (x ∷ []) ∙ ap (λ (l : List ℕ). withoutMarks s ++ l) (without_other x [] e ∙ ap (λ (l : List ℕ). x ∷ l) nil-without)
+  without-last e = without-append s (x ∷ []) ∙ ap (λ (l : List ℕ). withoutMarks s ++ l) (without-other x [] e ∙ ap (λ (l : List ℕ). x ∷ l) nil-without)
 
   dropped-last-mark : isToneMark x ≡ true → lastTone None (droppedMarks (s ++ (x ∷ []))) ≡ markTone x
   dropped-last-mark e =
@@ -120,7 +120,7 @@ low-no-mark x h =
 -- ── the steps
 pub stripping-start : (before : List ℕ) → Stripping before before (record { n = 0; mark = 0; behind = 0; sorted = true }) []
 unfolding withoutMarks droppedMarks lastTone markTone encode
-stripping-start before = record { written = written_none before; tone = refl; order = λ e c f. (tt, tt) }
+stripping-start before = record { written = written-none before; tone = refl; order = λ e c f. (tt, tt) }
 
 module _ (before after : List ℕ) (p : Progress) (s : List ℕ) (h : Stripping before after p s) (x : ℕ) where
   -- a tone mark is only remembered
@@ -163,11 +163,11 @@ module _ (before after : List ℕ) (p : Progress) (s : List ℕ) (h : Stripping 
     stripping-unsorted = record { written = kept; tone = tone-stays; order = λ z. absurd (false-true z) }
 
   -- the bytes of one more code point, and of an ASCII character
-  pub written-point : p.n + length (bytes_of x) ≤ length before → Written before (paste after p.n (bytes_of x) (length (bytes_of x))) (p.n + length (bytes_of x)) (encode (withoutMarks s ++ (x ∷ [])))
-  written-point room = rw (encode-more (withoutMarks s) x) (written-run h.written (bytes_of x) room)
+  pub written-point : p.n + length (bytesOf x) ≤ length before → Written before (paste after p.n (bytesOf x) (length (bytesOf x))) (p.n + length (bytesOf x)) (encode (withoutMarks s ++ (x ∷ [])))
+  written-point room = rw (encode-more (withoutMarks s) x) (written-run h.written (bytesOf x) room)
 
   pub written-ascii : x ≤ 0x7F → p.n < length before → Written before (set after p.n x) (p.n + 1) (encode (withoutMarks s ++ (x ∷ [])))
-  written-ascii k room = rw (encode-more (withoutMarks s) x, bytes_one x k) (written_one h.written x room)
+  written-ascii k room = rw (encode-more (withoutMarks s) x, bytes-one x k) (written-one h.written x room)
 
   -- an ASCII character
   pub stripping-ascii : x < 0x80 → p.n < length after → Stripping before (set after p.n x) (record { n = p.n + 1; mark = p.mark; behind = 0; sorted = p.sorted }) (s ++ (x ∷ []))
@@ -180,8 +180,8 @@ module _ {p q r : Progress} {entry middle exit u v : List ℕ} where
   pub further-both : Further p q entry middle u → Further q r middle exit v → Further p r entry exit (u ++ v)
   further-both f g before s h = rw (← append_assoc s u v) (g before (s ++ u) (f before s h))
 
-pub further_same : {p q : Progress} {entry exit u v : List ℕ} → u ≡ v → Further p q entry exit u → Further p q entry exit v
-further_same e f before s h = rw (← e) (f before s h)
+pub further-same : {p q : Progress} {entry exit u v : List ℕ} → u ≡ v → Further p q entry exit u → Further p q entry exit v
+further-same e f before s h = rw (← e) (f before s h)
 
 -- a letter of the short lookup, at its code point k
 unfoldable pub isLetter : ℕ → ℕ → Bool
@@ -191,12 +191,12 @@ pub letter_at : (k x : ℕ) → T (isLetter k x) → (c : ℕ) → c ≡ k → I
 unfolding isLetter
 letter_at k x h c e some =
     let both : List ℕ = (x / 65536) ∷ (x % 65536) ∷ [] in
-    let ascii = both_right (same (decomposition unicode16 k) both) (ltb (x / 65536) 0x80 && (isToneMark (x % 65536) && member unicode16 k)) h in
-    let mark = both_right (ltb (x / 65536) 0x80) (isToneMark (x % 65536) && member unicode16 k) ascii in (
-      ap (decomposition unicode16) e ∙ same-equal (decomposition unicode16 k) both (both_left (same (decomposition unicode16 k) both) _ h),
-      ltb→lt (x / 65536) 0x80 (both_left (ltb (x / 65536) 0x80) _ ascii),
-      passes-true _ (both_left (isToneMark (x % 65536)) _ mark),
-      ap (member unicode16) e ∙ passes-true _ (both_right (isToneMark (x % 65536)) _ mark),
+    let ascii = both-right (same (decomposition unicode16 k) both) (ltb (x / 65536) 0x80 && (isToneMark (x % 65536) && member unicode16 k)) h in
+    let mark = both-right (ltb (x / 65536) 0x80) (isToneMark (x % 65536) && member unicode16 k) ascii in (
+      ap (decomposition unicode16) e ∙ same-equal (decomposition unicode16 k) both (both-left (same (decomposition unicode16 k) both) _ h),
+      ltb→lt (x / 65536) 0x80 (both-left (ltb (x / 65536) 0x80) _ ascii),
+      passes-true _ (both-left (isToneMark (x % 65536)) _ mark),
+      ap (member unicode16) e ∙ passes-true _ (both-right (isToneMark (x % 65536)) _ mark),
     )
 
 -- its full decomposition
@@ -207,13 +207,13 @@ letter-full c x h some =
 
 -- ── the end: what was stripped is the stripped NFD
 module _ (before after : List ℕ) (p : Progress) (u : List ℕ) (h : Stripping before after p (full unicode16 u)) where
-  sorted_rest : p.sorted ≡ true → withoutMarks (nfd unicode16 u) ≡ withoutMarks (full unicode16 u)
-  sorted_rest e =
+  sorted-rest : p.sorted ≡ true → withoutMarks (nfd unicode16 u) ≡ withoutMarks (full unicode16 u)
+  sorted-rest e =
       let q : combiningClass unicode16 0 ≡ 0 = low-starter 0 (omega arith) in
       nfd-without u (ordered-before unicode16 (withoutMarks (full unicode16 u)) 0 (h.order e 0 (λ r. omega arith)))
 
   stripped-bytes : p.sorted ≡ true → Written before after p.n (encode (withoutMarks (nfd unicode16 u)))
-  stripped-bytes e = rw (sorted_rest e) h.written
+  stripped-bytes e = rw (sorted-rest e) h.written
 
   stripped-tone : markTone p.mark ≡ lastTone None (droppedMarks (nfd unicode16 u))
   stripped-tone = h.tone ∙ ap (lastTone None) (sym (nfd-dropped u))
@@ -231,22 +231,22 @@ pub ascii-full : (x : ℕ) → x < 0x80 → full unicode16 (x ∷ []) ≡ x ∷ 
 ascii-full x h = full-itself x (low-atom x (omega arith))
 
 module _ (s before : List ℕ) where
-  pub walking_start : length s ≤ length before → Walking s before before 0 (record { n = 0; mark = 0; behind = 0; sorted = true })
-  walking_start fit =
-      record { inside = omega arith; room = omega arith; text = []; taken = taken_start unicode16 s; stripping = rw (full-nil unicode16) (stripping-start before) }
+  pub walking-start : length s ≤ length before → Walking s before before 0 (record { n = 0; mark = 0; behind = 0; sorted = true })
+  walking-start fit =
+      record { inside = omega arith; room = omega arith; text = []; taken = taken-start unicode16 s; stripping = rw (full-nil unicode16) (stripping-start before) }
 
   module _ (out : List ℕ) (i : ℕ) (p : Progress) (r : Walking s before out i p) where
     -- a turn that reads a sequence of width w and code point x
     pub walking-more : i < length s → (w x : ℕ) → ReadOf (drop i s) w x → 0 < w → member unicode16 x ≡ true
         → (q : Progress) (out' : List ℕ) → Further p q out out' (full unicode16 (x ∷ [])) → q.n + (length s - (i + w)) ≤ length before → Walking s before out' (i + w) q
     walking-more h w x read some m q out' step room =
-        let wide : w ≡ width_at (drop i s) = read.wide in
+        let wide : w ≡ widthAt (drop i s) = read.wide in
         let point : x ≡ pointAt (drop i s) = read.read some in
         record {
           inside = omega (arith, width-within s i h);
           room = room;
           text = r.text ++ (x ∷ []);
-          taken = rw (point, wide) (taken_more unicode16 s r.text i r.taken h (omega arith) (ap (member unicode16) (sym point) ∙ m));
+          taken = rw (point, wide) (taken-more unicode16 s r.text i r.taken h (omega arith) (ap (member unicode16) (sym point) ∙ m));
           stripping = rw (full-append unicode16 r.text (x ∷ [])) (step before (full unicode16 r.text) r.stripping);
         }
 

@@ -13,7 +13,7 @@ use Rattle.ucd.specs.Table.{All, Atom, inRanges, mappingIn, classIn, member, dec
 use Rattle.ucd.specs.Full.{full}
 use Rattle.ucd.specs.Unicode16.{unicode16, ranges16, mappings16, classes16}
 use Rattle.ucd.proofs.Unicode16.{low-atom, low-starter}
-use Rattle.ji.specs.Utf8.{bytes_of, encode}
+use Rattle.ji.specs.Utf8.{bytesOf, encode}
 use Rattle.ji.specs.Unicode.{members}
 use Rattle.ji.specs.Nfd.{Reorderable, NoPair, Ordered, nfd}
 use Rattle.ji.specs.Tone.{pickTone, toneNumber}
@@ -23,15 +23,15 @@ use Rattle.ji.specs.Lomaji.Quick.{IsLetter}
 use Rattle.ji.specs.Lomaji.Single.{Kept, KeptTo, MarkedAt}
 use Rattle.ji.specs.declared.tone.Tone.{Tone}
 use Rattle.ji.specs.declared.tone.Tone.TheVariants.{None}
-use Rattle.ji.proofs.Bools.{and_yes}
-use Rattle.ji.proofs.Composition.{all_append}
+use Rattle.ji.proofs.Bools.{and-yes}
+use Rattle.ji.proofs.Composition.{all-append}
 use Rattle.ji.proofs.Decomposition.{full-append, full-cons, full-atoms}
-use Rattle.ji.proofs.utf8.Encoding.{bytes_one, bytes-two, encode-nil, encode-cons, encode-append, encode-more}
+use Rattle.ji.proofs.utf8.Encoding.{bytes-one, bytes-two, encode-nil, encode-cons, encode-append, encode-more}
 use Rattle.ji.proofs.unicode.Laws.{members-append, members-one}
-use Rattle.ji.proofs.unicode.Checked.{bytes_good}
+use Rattle.ji.proofs.unicode.Checked.{bytes-good}
 use Rattle.ji.proofs.unicode.Ascii.{ascii-member}
-use Rattle.ji.proofs.lomaji.strip.Laws.{mark-is, last_none, last_more, strip-told}
-use Rattle.ji.proofs.lomaji.strip.Commuting.{without-mark, without_other, dropped-mark, dropped-other, nfd-without, nfd-dropped}
+use Rattle.ji.proofs.lomaji.strip.Laws.{mark-is, last-none, last-more, strip-told}
+use Rattle.ji.proofs.lomaji.strip.Commuting.{without-mark, without-other, dropped-mark, dropped-other, nfd-without, nfd-dropped}
 use Rattle.ji.proofs.lomaji.quick.Laws.{low-no-mark, without-append, dropped-append, nil-without, nil-dropped, letter-full}
 
 -- ── a code point that is kept
@@ -65,12 +65,12 @@ kept-atoms : (s : List ℕ) → All Kept s → All (Atom unicode16) s
 kept-atoms [] h = tt
 kept-atoms (x ∷ s) h = (kept-atom x h.0, kept-atoms s h.1)
 
-kept_full : (s : List ℕ) → All Kept s → full unicode16 s ≡ s
-kept_full s h = full-atoms unicode16 s (kept-atoms s h)
+kept-full : (s : List ℕ) → All Kept s → full unicode16 s ≡ s
+kept-full s h = full-atoms unicode16 s (kept-atoms s h)
 
 kept-without : (s : List ℕ) → All Kept s → withoutMarks s ≡ s
 kept-without [] h = nil-without
-kept-without (x ∷ s) h = without_other x s (kept-no-mark x h.0) ∙ ap (λ (l : List ℕ). x ∷ l) (kept-without s h.1)
+kept-without (x ∷ s) h = without-other x s (kept-no-mark x h.0) ∙ ap (λ (l : List ℕ). x ∷ l) (kept-without s h.1)
 
 kept-dropped : (s : List ℕ) → All Kept s → droppedMarks s ≡ []
 kept-dropped [] h = nil-dropped
@@ -79,10 +79,10 @@ kept-dropped (x ∷ s) h = dropped-other x s (kept-no-mark x h.0) ∙ kept-dropp
 kept-members : (s : List ℕ) → All Kept s → members unicode16 s ≡ true
 unfolding members
 kept-members [] h = refl
-kept-members (x ∷ s) h = and_yes _ _ (kept-member x h.0) ∙ kept-members s h.1
+kept-members (x ∷ s) h = and-yes _ _ (kept-member x h.0) ∙ kept-members s h.1
 
-kept_pair : (a b : ℕ) → Kept a → Kept b → Reorderable unicode16 a b → ⊥
-kept_pair a b h k r = by-class (kept-class a h) (kept-class b k)
+kept-pair : (a b : ℕ) → Kept a → Kept b → Reorderable unicode16 a b → ⊥
+kept-pair a b h k r = by-class (kept-class a h) (kept-class b k)
   where
     by-class : (combiningClass unicode16 a ≡ 0) ⊎ (combiningClass unicode16 a ≡ 232) → (combiningClass unicode16 b ≡ 0) ⊎ (combiningClass unicode16 b ≡ 232) → ⊥
     by-class (inl x) y = omega (arith, r.1)
@@ -91,7 +91,7 @@ kept_pair a b h k r = by-class (kept-class a h) (kept-class b k)
 
 kept-apart : (a : ℕ) (s : List ℕ) → Kept a → All Kept s → NoPair unicode16 a s
 kept-apart a [] h k = tt
-kept-apart a (b ∷ s) h k = kept_pair a b h k.0
+kept-apart a (b ∷ s) h k = kept-pair a b h k.0
 
 kept-ordered : (s : List ℕ) → All Kept s → Ordered unicode16 s
 kept-ordered [] h = tt
@@ -103,10 +103,10 @@ left-kept u left h is = nfd-without u (rw is (kept-ordered left h)) ∙ is
 
 -- so such a text is left whole, and no mark is dropped
 pub kept-rest : (s : List ℕ) → All Kept s → withoutMarks (nfd unicode16 s) ≡ s
-kept-rest s h = left-kept s s h (ap withoutMarks (kept_full s h) ∙ kept-without s h)
+kept-rest s h = left-kept s s h (ap withoutMarks (kept-full s h) ∙ kept-without s h)
 
 pub kept-marks : (s : List ℕ) → All Kept s → droppedMarks (nfd unicode16 s) ≡ []
-kept-marks s h = nfd-dropped s ∙ ap droppedMarks (kept_full s h) ∙ kept-dropped s h
+kept-marks s h = nfd-dropped s ∙ ap droppedMarks (kept-full s h) ∙ kept-dropped s h
 
 -- the bytes to the end of a text
 kept-end : (s : List ℕ) (from : ℕ) (k : KeptTo s from (length s)) → drop from s ≡ encode k.0
@@ -117,8 +117,8 @@ pub kept-strip : (text buffer : List ℕ) → KeptTo text 0 (length text) → le
     → placed (toneNumber (toneOr None (unmarkedTone text))) text buffer ≡ stripCall unicode16 text buffer
 kept-strip text buffer k short =
     let is : text ≡ encode k.0 = kept-end text 0 k in
-    strip-told unicode16 text buffer k.0 (bytes_good text k.0 (kept-members k.0 k.1) is) short None text
-    (sym (ap (lastTone None) (kept-marks k.0 k.1) ∙ last_none None)) (is ∙ ap encode (sym (kept-rest k.0 k.1)))
+    strip-told unicode16 text buffer k.0 (bytes-good text k.0 (kept-members k.0 k.1) is) short None text
+    (sym (ap (lastTone None) (kept-marks k.0 k.1) ∙ last-none None)) (is ∙ ap encode (sym (kept-rest k.0 k.1)))
 
 -- ── one letter with a mark among them
 module _ (p r : List ℕ) (c x : ℕ) (hp : All Kept p) (hr : All Kept r) (l : IsLetter c x) (some : x ≡ 0 → ⊥) where
@@ -131,27 +131,27 @@ module _ (p r : List ℕ) (c x : ℕ) (hp : All Kept p) (hr : All Kept r) (l : I
   whole-full : full unicode16 whole ≡ p ++ (x / 65536 ∷ x % 65536 ∷ r)
   whole-full =
       full-append unicode16 p (c ∷ r)
-      ∙ ap₂ (λ (a b : List ℕ). a ++ b) (kept_full p hp) (full-cons unicode16 c r ∙ ap₂ (λ (a b : List ℕ). a ++ b) (sym (letter-full c x l some)) (kept_full r hr))
+      ∙ ap₂ (λ (a b : List ℕ). a ++ b) (kept-full p hp) (full-cons unicode16 c r ∙ ap₂ (λ (a b : List ℕ). a ++ b) (sym (letter-full c x l some)) (kept-full r hr))
 
-  base_kept : Kept (x / 65536)
-  base_kept = inl (omega (arith, (l some).1))
+  base-kept : Kept (x / 65536)
+  base-kept = inl (omega (arith, (l some).1))
 
   left-is-kept : All Kept left
-  left-is-kept = all_append Kept p (x / 65536 ∷ r) hp (base_kept, hr)
+  left-is-kept = all-append Kept p (x / 65536 ∷ r) hp (base-kept, hr)
 
   whole-without : withoutMarks (full unicode16 whole) ≡ left
   whole-without =
       ap withoutMarks whole-full
       ∙ without-append p (x / 65536 ∷ x % 65536 ∷ r)
       ∙ ap₂ (λ (a b : List ℕ). a ++ b) (kept-without p hp)
-      (without_other (x / 65536) (x % 65536 ∷ r) (kept-no-mark (x / 65536) base_kept) ∙ ap (λ (b : List ℕ). x / 65536 ∷ b) (without-mark (x % 65536) r (l some).2 ∙ kept-without r hr))
+      (without-other (x / 65536) (x % 65536 ∷ r) (kept-no-mark (x / 65536) base-kept) ∙ ap (λ (b : List ℕ). x / 65536 ∷ b) (without-mark (x % 65536) r (l some).2 ∙ kept-without r hr))
 
   whole-dropped : droppedMarks (full unicode16 whole) ≡ x % 65536 ∷ []
   whole-dropped =
       ap droppedMarks whole-full
       ∙ dropped-append p (x / 65536 ∷ x % 65536 ∷ r)
       ∙ ap₂ (λ (a b : List ℕ). a ++ b) (kept-dropped p hp)
-      (dropped-other (x / 65536) (x % 65536 ∷ r) (kept-no-mark (x / 65536) base_kept) ∙ dropped-mark (x % 65536) r (l some).2 ∙ ap (λ (b : List ℕ). x % 65536 ∷ b) (kept-dropped r hr))
+      (dropped-other (x / 65536) (x % 65536 ∷ r) (kept-no-mark (x / 65536) base-kept) ∙ dropped-mark (x % 65536) r (l some).2 ∙ ap (λ (b : List ℕ). x % 65536 ∷ b) (kept-dropped r hr))
 
   whole-members : members unicode16 whole ≡ true
   whole-members = members-append unicode16 p (c ∷ r) (kept-members p hp) ∙ members-append unicode16 (c ∷ []) r (members-one unicode16 c (l some).3) ∙ kept-members r hr
@@ -164,8 +164,8 @@ module _ (p r : List ℕ) (c x : ℕ) (hp : All Kept p) (hr : All Kept r) (l : I
       → placed (toneNumber (markTone (x % 65536))) rest buffer ≡ stripCall unicode16 text buffer
   whole-strip text rest buffer is left-bytes short =
       ap (λ (o : Tone). placed (toneNumber o) rest buffer) (sym (mark-gives (unmarkedTone rest)))
-      ∙ strip-told unicode16 text buffer whole (bytes_good text whole whole-members is) short (markTone (x % 65536)) rest
-      (sym (ap (lastTone None) (nfd-dropped whole ∙ whole-dropped) ∙ last_more None (x % 65536) [] ∙ last_none (markTone (x % 65536))))
+      ∙ strip-told unicode16 text buffer whole (bytes-good text whole whole-members is) short (markTone (x % 65536)) rest
+      (sym (ap (lastTone None) (nfd-dropped whole ∙ whole-dropped) ∙ last-more None (x % 65536) [] ∙ last-none (markTone (x % 65536))))
       (left-bytes ∙ ap encode (sym (left-kept whole left left-is-kept whole-without)))
 
 -- the same of its bytes
@@ -176,19 +176,19 @@ module _ (text : List ℕ) (at x : ℕ) (inside : at ≤ length text) (front : K
   text-is : text ≡ encode (front.0 ++ (letter ∷ back.0))
   text-is =
       front.2
-      ∙ ap (λ (l : List ℕ). encode front.0 ++ l) ((m some).2 ∙ ap (λ (l : List ℕ). bytes_of letter ++ l) (kept-end text (at + 2) back) ∙ sym (encode-cons letter back.0))
+      ∙ ap (λ (l : List ℕ). encode front.0 ++ l) ((m some).2 ∙ ap (λ (l : List ℕ). bytesOf letter ++ l) (kept-end text (at + 2) back) ∙ sym (encode-cons letter back.0))
       ∙ sym (encode-append front.0 (letter ∷ back.0))
 
-  front_length : length (encode front.0) ≡ at
-  front_length = omega (arith, inside, ap length front.2, length-append (encode front.0) (drop at text), length-drop at text)
+  front-length : length (encode front.0) ≡ at
+  front-length = omega (arith, inside, ap length front.2, length-append (encode front.0) (drop at text), length-drop at text)
 
   front-is : take at text ≡ encode front.0
-  front-is = ap (take at) front.2 ∙ take_at (encode front.0) (drop at text) at front_length
+  front-is = ap (take at) front.2 ∙ take_at (encode front.0) (drop at text) at front-length
 
   rest-is : take at text ++ (x / 65536 ∷ drop (at + 2) text) ≡ encode (front.0 ++ (x / 65536 ∷ back.0))
   rest-is =
       ap₂ (λ (a b : List ℕ). a ++ (x / 65536 ∷ b)) front-is (kept-end text (at + 2) back)
-      ∙ ap (λ (b : List ℕ). encode front.0 ++ b) (sym (encode-cons (x / 65536) back.0 ∙ ap (λ (a : List ℕ). a ++ encode back.0) (bytes_one (x / 65536) (omega (arith, ((m some).3 some).1)))))
+      ∙ ap (λ (b : List ℕ). encode front.0 ++ b) (sym (encode-cons (x / 65536) back.0 ∙ ap (λ (a : List ℕ). a ++ encode back.0) (bytes-one (x / 65536) (omega (arith, ((m some).3 some).1)))))
       ∙ sym (encode-append front.0 (x / 65536 ∷ back.0))
 
   -- what the call replies to it
@@ -197,57 +197,57 @@ module _ (text : List ℕ) (at x : ℕ) (inside : at ≤ length text) (front : K
   marked-strip buffer short = whole-strip front.0 back.0 letter x front.1 back.1 (m some).3 some text _ buffer text-is rest-is short
 
 -- ── the bytes at a place
-one_at : (s : List ℕ) (i : ℕ) → i < length s → drop i s ≡ get_or s i 0 ∷ drop (i + 1) s
-one_at s i h = drop-cons s i 0 h ∙ ap (λ (k : ℕ). get_or s i 0 ∷ drop k s) (sym (add-one i))
+one-at : (s : List ℕ) (i : ℕ) → i < length s → drop i s ≡ get_or s i 0 ∷ drop (i + 1) s
+one-at s i h = drop-cons s i 0 h ∙ ap (λ (k : ℕ). get_or s i 0 ∷ drop k s) (sym (add-one i))
 
-two_at : (s : List ℕ) (i : ℕ) → i + 1 < length s → drop i s ≡ get_or s i 0 ∷ get_or s (i + 1) 0 ∷ drop (i + 2) s
-two_at s i h =
+two-at : (s : List ℕ) (i : ℕ) → i + 1 < length s → drop i s ≡ get_or s i 0 ∷ get_or s (i + 1) 0 ∷ drop (i + 2) s
+two-at s i h =
     let next : i + 1 + 1 ≡ i + 2 = omega arith in
-    one_at s i (omega arith) ∙ ap (λ (l : List ℕ). get_or s i 0 ∷ l) (one_at s (i + 1) h ∙ ap (λ (k : ℕ). get_or s (i + 1) 0 ∷ drop k s) next)
+    one-at s i (omega arith) ∙ ap (λ (l : List ℕ). get_or s i 0 ∷ l) (one-at s (i + 1) h ∙ ap (λ (k : ℕ). get_or s (i + 1) 0 ∷ drop k s) next)
 
 three-at : (s : List ℕ) (i : ℕ) → i + 2 < length s → drop i s ≡ get_or s i 0 ∷ get_or s (i + 1) 0 ∷ get_or s (i + 2) 0 ∷ drop (i + 3) s
 three-at s i h =
     let next : i + 2 + 1 ≡ i + 3 = omega arith in
-    two_at s i (omega arith) ∙ ap (λ (l : List ℕ). get_or s i 0 ∷ get_or s (i + 1) 0 ∷ l) (one_at s (i + 2) h ∙ ap (λ (k : ℕ). get_or s (i + 2) 0 ∷ drop k s) next)
+    two-at s i (omega arith) ∙ ap (λ (l : List ℕ). get_or s i 0 ∷ get_or s (i + 1) 0 ∷ l) (one-at s (i + 2) h ∙ ap (λ (k : ℕ). get_or s (i + 2) 0 ∷ drop k s) next)
 
 -- an ASCII character, 0358 and 207F
-pub ascii-at : (s : List ℕ) (i : ℕ) → i < length s → get_or s i 0 < 0x80 → drop i s ≡ bytes_of (get_or s i 0) ++ drop (i + 1) s
-ascii-at s i h low = one_at s i h ∙ ap (λ (l : List ℕ). l ++ drop (i + 1) s) (sym (bytes_one (get_or s i 0) (omega arith)))
+pub ascii-at : (s : List ℕ) (i : ℕ) → i < length s → get_or s i 0 < 0x80 → drop i s ≡ bytesOf (get_or s i 0) ++ drop (i + 1) s
+ascii-at s i h low = one-at s i h ∙ ap (λ (l : List ℕ). l ++ drop (i + 1) s) (sym (bytes-one (get_or s i 0) (omega arith)))
 
-pub dot_at : (s : List ℕ) (i : ℕ) → i + 1 < length s → get_or s i 0 ≡ 0xCD → get_or s (i + 1) 0 ≡ 0x98 → drop i s ≡ bytes_of 0x0358 ++ drop (i + 2) s
-unfolding bytes_of
-dot_at s i h a b = two_at s i h ∙ ap₂ (λ (x y : ℕ). x ∷ y ∷ drop (i + 2) s) a b
+pub dot-at : (s : List ℕ) (i : ℕ) → i + 1 < length s → get_or s i 0 ≡ 0xCD → get_or s (i + 1) 0 ≡ 0x98 → drop i s ≡ bytesOf 0x0358 ++ drop (i + 2) s
+unfolding bytesOf
+dot-at s i h a b = two-at s i h ∙ ap₂ (λ (x y : ℕ). x ∷ y ∷ drop (i + 2) s) a b
 
-pub nasal-at : (s : List ℕ) (i : ℕ) → i + 2 < length s → get_or s i 0 ≡ 0xE2 → get_or s (i + 1) 0 ≡ 0x81 → get_or s (i + 2) 0 ≡ 0xBF → drop i s ≡ bytes_of 0x207F ++ drop (i + 3) s
-unfolding bytes_of
+pub nasal-at : (s : List ℕ) (i : ℕ) → i + 2 < length s → get_or s i 0 ≡ 0xE2 → get_or s (i + 1) 0 ≡ 0x81 → get_or s (i + 2) 0 ≡ 0xBF → drop i s ≡ bytesOf 0x207F ++ drop (i + 3) s
+unfolding bytesOf
 nasal-at s i h a b c = three-at s i h ∙ ap₂ (λ (x y : ℕ). x ∷ y ∷ get_or s (i + 2) 0 ∷ drop (i + 3) s) a b ∙ ap (λ (z : ℕ). 0xE2 ∷ 0x81 ∷ z ∷ drop (i + 3) s) c
 
 -- nothing yet, and one code point more
 pub kept-start : (s : List ℕ) (from : ℕ) → KeptTo s from from
 kept-start s from = ([], tt, ap (λ (l : List ℕ). l ++ drop from s) (sym encode-nil))
 
-pub kept_more : (s : List ℕ) (from i to x : ℕ) → KeptTo s from i → Kept x → drop i s ≡ bytes_of x ++ drop to s → KeptTo s from to
-kept_more s from i to x k h here = (
+pub kept-more : (s : List ℕ) (from i to x : ℕ) → KeptTo s from i → Kept x → drop i s ≡ bytesOf x ++ drop to s → KeptTo s from to
+kept-more s from i to x k h here = (
   k.0 ++ (x ∷ []),
-  all_append Kept k.0 (x ∷ []) k.1 (h, tt),
-  k.2 ∙ ap (λ (l : List ℕ). encode k.0 ++ l) here ∙ sym (append_assoc (encode k.0) (bytes_of x) (drop to s)) ∙ ap (λ (l : List ℕ). l ++ drop to s) (sym (encode-more k.0 x)),
+  all-append Kept k.0 (x ∷ []) k.1 (h, tt),
+  k.2 ∙ ap (λ (l : List ℕ). encode k.0 ++ l) here ∙ sym (append_assoc (encode k.0) (bytesOf x) (drop to s)) ∙ ap (λ (l : List ℕ). l ++ drop to s) (sym (encode-more k.0 x)),
 )
 
 -- one part behind another
-pub kept_on : (s : List ℕ) (from i to : ℕ) → KeptTo s from i → KeptTo s i to → KeptTo s from to
-kept_on s from i to k l = (
+pub kept-on : (s : List ℕ) (from i to : ℕ) → KeptTo s from i → KeptTo s i to → KeptTo s from to
+kept-on s from i to k l = (
   k.0 ++ l.0,
-  all_append Kept k.0 l.0 k.1 l.1,
+  all-append Kept k.0 l.0 k.1 l.1,
   k.2 ∙ ap (λ (t : List ℕ). encode k.0 ++ t) l.2 ∙ sym (append_assoc (encode k.0) (encode l.0) (drop to s)) ∙ ap (λ (t : List ℕ). t ++ drop to s) (sym (encode-append k.0 l.0)),
 )
 
 -- a letter with a mark, read from its two bytes: what decomposes is not ASCII
-not_ascii : (c a b : ℕ) → decomposition unicode16 c ≡ a ∷ b ∷ [] → 0x7F < c
-not_ascii c a b e = by_size (dec_le c 0x7F)
+not-ascii : (c a b : ℕ) → decomposition unicode16 c ≡ a ∷ b ∷ [] → 0x7F < c
+not-ascii c a b e = by-size (dec_le c 0x7F)
   where
-    by_size : Dec (c ≤ 0x7F) → 0x7F < c
-    by_size (yes h) = absurd (let z : 1 ≡ 2 = ap length (sym (low-atom c (omega arith)) ∙ e) in omega arith)
-    by_size (no h) = omega arith
+    by-size : Dec (c ≤ 0x7F) → 0x7F < c
+    by-size (yes h) = absurd (let z : 1 ≡ 2 = ap length (sym (low-atom c (omega arith)) ∙ e) in omega arith)
+    by-size (no h) = omega arith
 
 pub letter-marked : (s : List ℕ) (at c x : ℕ) → at + 1 < length s → get_or s at 0 / 32 ≡ 6 → get_or s (at + 1) 0 / 64 ≡ 2
     → c ≡ get_or s at 0 % 32 * 64 + get_or s (at + 1) 0 % 64 → IsLetter c x → MarkedAt s at x
@@ -256,8 +256,8 @@ letter-marked s at c x h a b is l some =
     let second : get_or s (at + 1) 0 ≡ 0x80 + c % 64 = omega arith in (
       omega arith,
       c,
-      two_at s at h
+      two-at s at h
           ∙ ap₂ (λ (y z : ℕ). y ∷ z ∷ drop (at + 2) s) first second
-          ∙ ap (λ (u : List ℕ). u ++ drop (at + 2) s) (sym (bytes-two c (not_ascii c (x / 65536) (x % 65536) (l some).0) (omega arith))),
+          ∙ ap (λ (u : List ℕ). u ++ drop (at + 2) s) (sym (bytes-two c (not-ascii c (x / 65536) (x % 65536) (l some).0) (omega arith))),
       l,
     )

@@ -13,7 +13,7 @@ use Rattle.ucd.specs.Full.{full}
 use Rattle.ucd.specs.Unicode16.{unicode16}
 use Rattle.ucd.proofs.Tests.{true-passes, passes-true}
 use Rattle.ji.specs.Written.{Written}
-use Rattle.ji.specs.Utf8.{bytes_of, encode}
+use Rattle.ji.specs.Utf8.{bytesOf, encode}
 use Rattle.ji.specs.Unicode.{members}
 use Rattle.ji.specs.Nfd.{nfd}
 use Rattle.ji.specs.Tone.{toneNumber}
@@ -25,7 +25,7 @@ use Rattle.ji.specs.declared.tone.Tone.{Tone}
 use Rattle.ji.specs.declared.tone.Tone.TheVariants.{None, T1, T2, T3, T4, T5, T6, T7, T8, T9}
 use Rattle.ji.specs.declared.lomaji.strip.StripResult.{StripResult}
 use Rattle.ji.specs.declared.lomaji.strip.Strip.TheVariants.{Done, Refused}
-use Rattle.ji.proofs.Bools.{either, and_yes}
+use Rattle.ji.proofs.Bools.{either, and-yes}
 use Rattle.ji.proofs.Replies.{refusal-some}
 use Rattle.ji.proofs.Closure.{Inside, nfd-inside-16}
 use Rattle.ji.proofs.Decomposition.{full-nil, full-cons}
@@ -34,28 +34,28 @@ use Rattle.ji.proofs.unicode.Laws.{members-all, spread-full}
 use Rattle.ji.proofs.unicode.Reader.{spread-bytes}
 use Rattle.ji.proofs.unicode.Checked.{check-passed}
 use Rattle.ji.proofs.utf8.Encoding.{encode-cons}
-use Rattle.ji.proofs.lomaji.strip.Commuting.{without-mark, without_other}
+use Rattle.ji.proofs.lomaji.strip.Commuting.{without-mark, without-other}
 use Rattle.ji.proofs.lomaji.keys.Bytes.{stripped-bytes}
 
 -- ── a stripped text is one of the table
 all-members : (t : Table) (s : List ℕ) → Inside t s → members t s ≡ true
 unfolding members
 all-members t [] h = refl
-all-members t (c ∷ s) h = and_yes _ _ (passes-true (member t c) h.0) ∙ all-members t s h.1
+all-members t (c ∷ s) h = and-yes _ _ (passes-true (member t c) h.0) ∙ all-members t s h.1
 
-without_all : (P : ℕ → Type 0) (s : List ℕ) → All P s → All P (withoutMarks s)
+without-all : (P : ℕ → Type 0) (s : List ℕ) → All P s → All P (withoutMarks s)
 unfolding withoutMarks
-without_all P [] h = tt
-without_all P (c ∷ s) h =
+without-all P [] h = tt
+without-all P (c ∷ s) h =
     either (isToneMark c)
-    (λ e. rw (without-mark c s e) (without_all P s h.1))
-    (λ e. rw (without_other c s e) (h.0, without_all P s h.1))
+    (λ e. rw (without-mark c s e) (without-all P s h.1))
+    (λ e. rw (without-other c s e) (h.0, without-all P s h.1))
 
 pub stripped-inside : (s : List ℕ) → members unicode16 s ≡ true → members unicode16 (strip unicode16 s).rest ≡ true
 unfolding stripped
 stripped-inside s h =
     all-members unicode16 (withoutMarks (nfd unicode16 s))
-    (without_all (λ c. T (member unicode16 c)) (nfd unicode16 s)
+    (without-all (λ c. T (member unicode16 c)) (nfd unicode16 s)
     (nfd-inside-16 s (members-all unicode16 (λ c. T (member unicode16 c)) (λ c m. true-passes (member unicode16 c) m) s h)))
 
 -- ── how many code points it has
@@ -65,12 +65,12 @@ without-length [] = omega arith
 without-length (c ∷ s) =
     either (isToneMark c)
     (λ e. rw (without-mark c s e) (omega (arith, without-length s)))
-    (λ e. rw (without_other c s e) (omega (arith, without-length s)))
+    (λ e. rw (without-other c s e) (omega (arith, without-length s)))
 
 full-points : (s : List ℕ) → 2 * length (full unicode16 s) ≤ 3 * length (encode s)
 full-points [] = rw (full-nil unicode16) (omega arith)
 full-points (c ∷ s) =
-    omega (arith, ap length (full-cons unicode16 c s), length-append (full unicode16 (c ∷ [])) (full unicode16 s), ap length (spread-full unicode16 (c ∷ [])), spread-bytes true c, full-points s, ap length (encode-cons c s), length-append (bytes_of c) (encode s))
+    omega (arith, ap length (full-cons unicode16 c s), length-append (full unicode16 (c ∷ [])) (full unicode16 s), ap length (spread-full unicode16 (c ∷ [])), spread-bytes true c, full-points s, ap length (encode-cons c s), length-append (bytesOf c) (encode s))
 
 pub stripped-points : (s : List ℕ) → 2 * length (strip unicode16 s).rest ≤ 3 * length (encode s)
 unfolding stripped nfd
@@ -80,17 +80,17 @@ stripped-points s = omega (arith, without-length (nfd unicode16 s), order-length
 abbrev refusals : List Refusal
 refusals = Argument ∷ Argument ∷ TooLong ∷ IllFormed ∷ OutsideTable ∷ Parts ∷ Position ∷ NoRoom ∷ []
 
-by_number : (why : Refusal) → get_or refusals (refusalNumber why) Argument ≡ why
-by_number Argument = refl
-by_number TooLong = refl
-by_number IllFormed = refl
-by_number OutsideTable = refl
-by_number Parts = refl
-by_number Position = refl
-by_number NoRoom = refl
+by-number : (why : Refusal) → get_or refusals (refusalNumber why) Argument ≡ why
+by-number Argument = refl
+by-number TooLong = refl
+by-number IllFormed = refl
+by-number OutsideTable = refl
+by-number Parts = refl
+by-number Position = refl
+by-number NoRoom = refl
 
 pub same-refusal : (why other : Refusal) → refusalNumber why ≡ refusalNumber other → why ≡ other
-same-refusal why other e = sym (by_number why) ∙ ap (λ (n : ℕ). get_or refusals n Argument) e ∙ by_number other
+same-refusal why other e = sym (by-number why) ∙ ap (λ (n : ℕ). get_or refusals n Argument) e ∙ by-number other
 
 abbrev tones : List Tone
 tones = None ∷ T1 ∷ T2 ∷ T3 ∷ T4 ∷ T5 ∷ T6 ∷ T7 ∷ T8 ∷ T9 ∷ []

@@ -12,7 +12,7 @@ use Rattle.ji.specs.Lomaji.Strip.{lastTone, unmarkedTone, stripped, strip}
 use Rattle.ji.specs.Lomaji.Single.{Kept}
 use Rattle.ji.specs.declared.tone.Tone.{Tone}
 use Rattle.ji.proofs.unicode.Ascii.{ascii-low, ascii-rest, ascii-bytes}
-use Rattle.ji.proofs.lomaji.strip.Laws.{last_none}
+use Rattle.ji.proofs.lomaji.strip.Laws.{last-none}
 use Rattle.ji.proofs.lomaji.single.Laws.{kept-rest, kept-marks}
 
 ascii-kept : (s : List ℕ) → allAscii s ≡ true → All Kept s
@@ -27,4 +27,4 @@ pub ascii-tone : (s : List ℕ) → allAscii s ≡ true → (strip unicode16 s).
 unfolding stripped
 ascii-tone s h =
     ap₂ (λ (o : Tone) (ms : List ℕ). lastTone o ms) (ap (λ (u : List ℕ). unmarkedTone (encode u)) (ascii-stripped s h) ∙ ap unmarkedTone (ascii-bytes s h)) (kept-marks s (ascii-kept s h))
-    ∙ last_none (unmarkedTone s)
+    ∙ last-none (unmarkedTone s)

@@ -14,7 +14,7 @@ use Rattle.ucd.specs.Unicode16.{unicode16, classes16}
 use Rattle.ji.specs.Nfd.{Reorderable, Exchange, here, there, Exchanges, none, more, NoPair, Ordered, order, ofClass, nfd}
 use Rattle.ji.specs.Lomaji.Strip.{toneMarks, markIn, isToneMark, withoutMarks, droppedMarks}
 use Rattle.ji.specs.declared.tone.Tone.{Tone}
-use Rattle.ji.proofs.Bools.{either, false-true, or_yes, or_no, text-yes, text-no}
+use Rattle.ji.proofs.Bools.{either, false-true, or-yes, or-no, text-yes, text-no}
 use Rattle.ji.proofs.Order.{exchanges-join, exchanges-behind, order-reached, order-ordered, ordered-fixed, order-only, order-stable}
 
 -- ── the class of the tone marks
@@ -31,7 +31,7 @@ class-in [] h c e = absurd (false-true e)
 class-in (m ∷ ms) h c e =
     either (eqb m.0 c)
     (λ y. ap (combiningClass unicode16) (sym (eqb-true m.0 c y)) ∙ h.0)
-    (λ n. class-in ms h.1 c (sym (or_no (eqb m.0 c) (markIn ms c) n) ∙ e))
+    (λ n. class-in ms h.1 c (sym (or-no (eqb m.0 c) (markIn ms c) n) ∙ e))
 
 pub mark-class : (c : ℕ) → isToneMark c ≡ true → combiningClass unicode16 c ≡ 230
 unfolding isToneMark
@@ -43,9 +43,9 @@ module _ (c : ℕ) (s : List ℕ) where
   unfolding withoutMarks
   without-mark e = text-yes _ _ _ e
 
-  pub without_other : isToneMark c ≡ false → withoutMarks (c ∷ s) ≡ c ∷ withoutMarks s
+  pub without-other : isToneMark c ≡ false → withoutMarks (c ∷ s) ≡ c ∷ withoutMarks s
   unfolding withoutMarks
-  without_other e = text-no _ _ _ e
+  without-other e = text-no _ _ _ e
 
   pub dropped-mark : isToneMark c ≡ true → droppedMarks (c ∷ s) ≡ c ∷ droppedMarks s
   unfolding droppedMarks
@@ -63,15 +63,15 @@ exchange-without (here {a} {b} {s} h) =
     (λ x. rw (without-mark a (b ∷ s) x)
     (either (isToneMark b)
     (λ y. rw (without-mark b s y, without-mark b (a ∷ s) y, without-mark a s x) none)
-    (λ y. rw (without_other b s y, without_other b (a ∷ s) y, without-mark a s x) none)))
-    (λ x. rw (without_other a (b ∷ s) x)
+    (λ y. rw (without-other b s y, without-other b (a ∷ s) y, without-mark a s x) none)))
+    (λ x. rw (without-other a (b ∷ s) x)
     (either (isToneMark b)
-    (λ y. rw (without-mark b s y, without-mark b (a ∷ s) y, without_other a s x) none)
-    (λ y. rw (without_other b s y, without_other b (a ∷ s) y, without_other a s x) (more (here h) none))))
+    (λ y. rw (without-mark b s y, without-mark b (a ∷ s) y, without-other a s x) none)
+    (λ y. rw (without-other b s y, without-other b (a ∷ s) y, without-other a s x) (more (here h) none))))
 exchange-without (there {c} {s} {u} x) =
     either (isToneMark c)
     (λ e. rw (without-mark c s e, without-mark c u e) (exchange-without x))
-    (λ e. rw (without_other c s e, without_other c u e) (exchanges-behind unicode16 (c ∷ []) (exchange-without x)))
+    (λ e. rw (without-other c s e, without-other c u e) (exchanges-behind unicode16 (c ∷ []) (exchange-without x)))
 
 exchanges-without : {s u : List ℕ} → Exchanges unicode16 s u → Exchanges unicode16 (withoutMarks s) (withoutMarks u)
 exchanges-without none = none
@@ -92,7 +92,7 @@ without-no-pair a [] f h = tt
 without-no-pair a (m ∷ s) f h =
     either (isToneMark m)
     (λ e. rw (without-mark m s e) (without-no-pair a s (no-pair-past a m s (mark-class m e) f h.0) h.1))
-    (λ e. rw (without_other m s e) f)
+    (λ e. rw (without-other m s e) f)
 
 without-ordered : (s : List ℕ) → Ordered unicode16 s → Ordered unicode16 (withoutMarks s)
 unfolding withoutMarks
@@ -100,7 +100,7 @@ without-ordered [] h = tt
 without-ordered (c ∷ s) h =
     either (isToneMark c)
     (λ e. rw (without-mark c s e) (without-ordered s h.1))
-    (λ e. rw (without_other c s e) (without-no-pair c s h.0 h.1, without-ordered s h.1))
+    (λ e. rw (without-other c s e) (without-no-pair c s h.0 h.1, without-ordered s h.1))
 
 -- stripping commutes with canonical order
 pub without-order : (s : List ℕ) → withoutMarks (order unicode16 s) ≡ order unicode16 (withoutMarks s)
@@ -117,7 +117,7 @@ dropped-of-class (c ∷ s) =
     (λ n. ap droppedMarks (text-no _ _ _ n) ∙ dropped-of-class s ∙ sym (text-no _ _ _ (no-tone n)))
   where
     no-tone : (eqb (combiningClass unicode16 c) 230 || eqb (combiningClass unicode16 c) 0) ≡ false → isToneMark c ≡ false
-    no-tone n = either (isToneMark c) (λ e. absurd (false-true (sym n ∙ or_yes _ _ (eq-eqb _ _ (mark-class c e))))) (λ e. e)
+    no-tone n = either (isToneMark c) (λ e. absurd (false-true (sym n ∙ or-yes _ _ (eq-eqb _ _ (mark-class c e))))) (λ e. e)
 
 pub dropped-order : (s : List ℕ) → droppedMarks (order unicode16 s) ≡ droppedMarks s
 dropped-order s = sym (dropped-of-class (order unicode16 s)) ∙ ap droppedMarks (order-stable unicode16 230 s) ∙ dropped-of-class s

@@ -7,7 +7,7 @@ use Rattle.ucd.specs.Table.{same, mappingIn, classIn, decomposition, combiningCl
 use Rattle.ucd.specs.Full.{pass, passes, full}
 use Rattle.ucd.specs.Unicode16.{unicode16, mappings16, classes16}
 use Rattle.ji.specs.Text.{points, marked, lower}
-use Rattle.ji.specs.Utf8.{bytes_of, encode}
+use Rattle.ji.specs.Utf8.{bytesOf, encode}
 use Rattle.ji.specs.Nfd.{reorderable, insert, order, nfd}
 use Rattle.ji.specs.Lomaji.Strip.{markTone, isToneMark, withoutMarks, droppedMarks, lastTone, endsIn, unmarkedTone, Stripped, stripped, strip}
 use Rattle.ji.specs.declared.tone.Tone.{Tone}
@@ -48,5 +48,5 @@ examples =
     ∷ []
 
 right : Right examples
-unfolding same mappingIn classIn decomposition combiningClass pass passes full unicode16 mappings16 classes16 lower bytes_of encode reorderable insert order nfd markTone isToneMark withoutMarks droppedMarks lastTone endsIn unmarkedTone stripped
+unfolding same mappingIn classIn decomposition combiningClass pass passes full unicode16 mappings16 classes16 lower bytesOf encode reorderable insert order nfd markTone isToneMark withoutMarks droppedMarks lastTone endsIn unmarkedTone stripped
 right = (refl, (refl, (refl, (refl, (refl, (refl, (refl, (refl, (refl, (refl, (refl, (refl, (refl, (refl, (refl, (refl, (refl, (refl, (refl, (refl, (refl, (refl, tt))))))))))))))))))))))

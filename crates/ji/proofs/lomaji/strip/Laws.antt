@@ -11,7 +11,7 @@ use lib.ListN.{length, drop, get_or, drop_of_length-le}
 use lib.Seq.{drop-cons}
 use Rattle.ucd.specs.Table.{Table, pickText, same}
 use Rattle.ji.specs.Text.{lower}
-use Rattle.ji.specs.Utf8.{bytes_of, decode, encode}
+use Rattle.ji.specs.Utf8.{bytesOf, decode, encode}
 use Rattle.ji.specs.Tone.{pickTone, isTone, toneNumber}
 use Rattle.ji.specs.Unicode.{spread}
 use Rattle.ji.specs.Nfd.{order, nfd}
@@ -20,7 +20,7 @@ use Rattle.ji.specs.declared.reply.Refusal.{Refusal}
 use Rattle.ji.specs.Lomaji.Strip.{toneMarks, toneIn, markIn, markTone, isToneMark, withoutMarks, droppedMarks, lastTone, endsIn, endsInAny, stopEndings, unmarkedTone, toneOr, stripped, strippedReply, stripOf, stripCall}
 use Rattle.ji.specs.declared.tone.Tone.{Tone}
 use Rattle.ji.specs.declared.tone.Tone.TheVariants.{None, T1, T2, T3, T4, T5, T6, T7, T8, T9}
-use Rattle.ji.proofs.Bools.{either, false-true, and_no, and_yes, and-false, or_yes, or_no, or-false, text-yes, text-no}
+use Rattle.ji.proofs.Bools.{either, false-true, and-no, and-yes, and-false, or-yes, or-no, or-false, text-yes, text-no}
 use Rattle.ji.proofs.Replies.{check-within}
 
 -- ── marks
@@ -32,8 +32,8 @@ marked : (ms : List (ℕ × Tone)) → Toned ms → (c : ℕ) → markIn ms c �
 marked [] h c = refl
 marked (m ∷ ms) h c =
     either (eqb m.0 c)
-    (λ e. or_yes _ _ e ∙ sym h.0 ∙ ap (λ (b : Bool). isTone (pickTone b m.1 (toneIn ms c))) (sym e))
-    (λ e. or_no _ _ e ∙ marked ms h.1 c ∙ ap (λ (b : Bool). isTone (pickTone b m.1 (toneIn ms c))) (sym e))
+    (λ e. or-yes _ _ e ∙ sym h.0 ∙ ap (λ (b : Bool). isTone (pickTone b m.1 (toneIn ms c))) (sym e))
+    (λ e. or-no _ _ e ∙ marked ms h.1 c ∙ ap (λ (b : Bool). isTone (pickTone b m.1 (toneIn ms c))) (sym e))
 
 -- a code point is a mark exactly where it has a tone
 pub mark-is : (c : ℕ) → isToneMark c ≡ isTone (markTone c)
@@ -73,21 +73,21 @@ module _ (s : List ℕ) (i : ℕ) (h : i < length s) where
   unfolding droppedMarks
   marks-dropped e = ap droppedMarks here ∙ text-yes _ _ _ e
 
-pub without_end : (s : List ℕ) (i : ℕ) → length s ≤ i → withoutMarks (drop i s) ≡ []
+pub without-end : (s : List ℕ) (i : ℕ) → length s ≤ i → withoutMarks (drop i s) ≡ []
 unfolding withoutMarks
-without_end s i h = ap withoutMarks (drop_of_length-le s h)
+without-end s i h = ap withoutMarks (drop_of_length-le s h)
 
 pub marks-end : (s : List ℕ) (i : ℕ) → length s ≤ i → droppedMarks (drop i s) ≡ []
 unfolding droppedMarks
 marks-end s i h = ap droppedMarks (drop_of_length-le s h)
 
-pub last_none : (o : Tone) → lastTone o [] ≡ o
+pub last-none : (o : Tone) → lastTone o [] ≡ o
 unfolding lastTone
-last_none o = refl
+last-none o = refl
 
-pub last_more : (o : Tone) (m : ℕ) (ms : List ℕ) → lastTone o (m ∷ ms) ≡ lastTone (markTone m) ms
+pub last-more : (o : Tone) (m : ℕ) (ms : List ℕ) → lastTone o (m ∷ ms) ≡ lastTone (markTone m) ms
 unfolding lastTone
-last_more o m ms = refl
+last-more o m ms = refl
 
 -- ── the endings
 same-lengths : (s e : List ℕ) → length s < length e → same s e ≡ false
@@ -123,10 +123,10 @@ module _ (e s : List ℕ) (at i : ℕ) (h : i < length e) (k : at + i < length s
       ∙ ap₂ (λ (m n : ℕ). eqb (lower (get_or s (at + i) 0)) (get_or e i 0) && same (map lower (drop m s)) (drop n e)) (let z : suc (at + i) ≡ at + (i + 1) = omega arith in z) (sym (add-one i))
 
   pub ends-differ : (lower (get_or s (at + i) 0) ≡ get_or e i 0 → ⊥) → tailIs e s at i ≡ false
-  ends-differ f = ends-step ∙ and_no _ _ (ne_eqb _ _ f)
+  ends-differ f = ends-step ∙ and-no _ _ (ne_eqb _ _ f)
 
   pub ends-agree : lower (get_or s (at + i) 0) ≡ get_or e i 0 → tailIs e s at i ≡ tailIs e s at (i + 1)
-  ends-agree f = ends-step ∙ and_yes _ _ (eq-eqb _ _ f)
+  ends-agree f = ends-step ∙ and-yes _ _ (eq-eqb _ _ f)
 
 pub ends-end : (e s : List ℕ) (at i : ℕ) → length e ≤ i → length s ≤ at + i → tailIs e s at i ≡ true
 unfolding same
@@ -147,18 +147,18 @@ lastLetter s = get_or s (length s - 1) 0
 
 -- a text with another last letter, in lower case, than an ending has not that ending
 letter-differs : (e s : List ℕ) → 0 < length e → (lower (lastLetter s) ≡ lastLetter e → ⊥) → endsIn e s ≡ false
-letter-differs e s some f = by_length (leb (length e) (length s)) refl
+letter-differs e s some f = by-length (leb (length e) (length s)) refl
   where
-    by_length : (b : Bool) → leb (length e) (length s) ≡ b → endsIn e s ≡ false
-    by_length false n = sym (ends-short e s (leb-false (length e) (length s) n))
-    by_length true y =
+    by-length : (b : Bool) → leb (length e) (length s) ≡ b → endsIn e s ≡ false
+    by-length false n = sym (ends-short e s (leb-false (length e) (length s) n))
+    by-length true y =
         let l : length e ≤ length s = leb-true (length e) (length s) y in
         let at : ℕ = length s - length e in
         let i : ℕ = length e - 1 in
-        let same_place : at + i ≡ length s - 1 = omega arith in
+        let same-place : at + i ≡ length s - 1 = omega arith in
         ends-start e s at refl
         ∙ ends-later e s at i (omega arith) (omega arith)
-        (ends-differ e s at i (omega arith) (omega arith) (λ z. f (ap (λ (k : ℕ). lower (get_or s k 0)) (sym same_place) ∙ z)))
+        (ends-differ e s at i (omega arith) (omega arith) (λ z. f (ap (λ (k : ℕ). lower (get_or s k 0)) (sym same-place) ∙ z)))
 
 -- ── the tone without a mark
 -- the seven endings as the code has them
@@ -167,7 +167,7 @@ stopBytes =
     (0x68 ∷ []) ∷ (0x70 ∷ []) ∷ (0x74 ∷ []) ∷ (0x6B ∷ []) ∷ (0x68 ∷ 0x6E ∷ 0x6E ∷ []) ∷ (0x68 ∷ 0xE2 ∷ 0x81 ∷ 0xBF ∷ []) ∷ (0x68 ∷ 0xE1 ∷ 0xB4 ∷ 0xBA ∷ []) ∷ []
 
 stop-bytes : stopEndings ≡ stopBytes
-unfolding encode bytes_of
+unfolding encode bytesOf
 stop-bytes = refl
 
 abbrev pickEndings : Bool → List (List ℕ) → List (List ℕ) → List (List ℕ)
@@ -192,7 +192,7 @@ by-letter x s h (e ∷ es) l =
     ap (λ (b : Bool). endsIn e s || b) (by-letter x s h es l.1)
     ∙ sym (ap (λ (b : Bool). endsInAny (pickEndings b (e ∷ lettered x es) (lettered x es)) s) y))
     (λ n.
-    or_no _ _ (letter-differs e s l.0 (λ z. eqb-false x (lastLetter e) n (h ∙ z)))
+    or-no _ _ (letter-differs e s l.0 (λ z. eqb-false x (lastLetter e) n (h ∙ z)))
     ∙ by-letter x s h es l.1
     ∙ sym (ap (λ (b : Bool). endsInAny (pickEndings b (e ∷ lettered x es) (lettered x es)) s) n))
 
@@ -219,7 +219,7 @@ pub stop-none : (x : ℕ) (s : List ℕ) → x ≡ lower (lastLetter s) → Unle
 stop-none x s h u = sym (stop-letter x s h ∙ ap (λ (es : List (List ℕ)). endsInAny es s) (none-lettered x stopBytes u))
 
 pub stop-empty : false ≡ endsInAny stopEndings []
-unfolding endsIn same encode bytes_of
+unfolding endsIn same encode bytesOf
 stop-empty = refl
 
 -- once there is a tone, it stays one

@@ -14,12 +14,12 @@ use lib.ListN.{length, drop, get_or, drop_of_length-le, get_or-eq_default}
 use lib.Seq.{drop-cons}
 use Rattle.ucd.specs.Table.{Table, All, listed}
 use Rattle.ji.specs.Text.{points, point, lower}
-use Rattle.ji.specs.Lomaji.ToneLetter.{patterns, matches, pickPlace, further, or_else, firstPlace, searched, toneLetter, is_some, hasToneLetter, place_of, letterAt, toneLetterOf, toneLetterCall, hasLetterReply, hasToneLetterOf, hasToneLetterCall}
+use Rattle.ji.specs.Lomaji.ToneLetter.{patterns, matches, pickPlace, further, orElse, firstPlace, searched, toneLetter, isSome, hasToneLetter, placeOf, letterAt, toneLetterOf, toneLetterCall, hasLetterReply, hasToneLetterOf, hasToneLetterCall}
 use Rattle.ji.specs.Nfd.{nfd}
 use Rattle.ji.specs.Reply.{refused, good, bad, checkText}
 use Rattle.ji.specs.declared.reply.Refusal.{Refusal}
 use Rattle.ji.specs.declared.lomaji.tone_letter.Place.{Place}
-use Rattle.ji.proofs.Bools.{false-true, either, and_yes, and_no, and-true, and_right, or_no}
+use Rattle.ji.proofs.Bools.{false-true, either, and-yes, and-no, and-true, and-right, or-no}
 
 -- pattern k: its letters, and which of them is the tone letter
 abbrev pub pattern : ℕ → List String × ℕ
@@ -67,23 +67,23 @@ listed-is xs y x h e = sym (ap (listed xs) e ∙ h)
 pub listed-none : (xs : List ℕ) (x : ℕ) → All (λ y. x ≡ y → ⊥) xs → false ≡ listed xs x
 unfolding listed
 listed-none [] x h = refl
-listed-none (y ∷ xs) x h = listed-none xs x h.1 ∙ sym (or_no _ _ (ne_eqb y x (λ e. h.0 (sym e))))
+listed-none (y ∷ xs) x h = listed-none xs x h.1 ∙ sym (or-no _ _ (ne_eqb y x (λ e. h.0 (sym e))))
 
 -- two letters beside each other
 pub listed-pair : (xs : List ℕ) (y x : ℕ) → listed xs y ≡ true → listed xs (y + 1) ≡ true → y ≤ x → x < y + 2 → true ≡ listed xs x
-listed-pair xs y x h k l u = by_first (ℕ_discrete x y)
+listed-pair xs y x h k l u = by-first (ℕ_discrete x y)
   where
-    by_first : Dec (x ≡ y) → true ≡ listed xs x
-    by_first (yes e) = listed-is xs y x h e
-    by_first (no n) = let e : x ≡ y + 1 = omega arith in listed-is xs (y + 1) x k e
+    by-first : Dec (x ≡ y) → true ≡ listed xs x
+    by-first (yes e) = listed-is xs y x h e
+    by-first (no n) = let e : x ≡ y + 1 = omega arith in listed-is xs (y + 1) x k e
 
 -- three
 pub listed-three : (xs : List ℕ) (y x : ℕ) → listed xs y ≡ true → listed xs (y + 1) ≡ true → listed xs (y + 2) ≡ true → y ≤ x → x < y + 3 → true ≡ listed xs x
-listed-three xs y x h k m l u = by_last (dec_le (y + 2) x)
+listed-three xs y x h k m l u = by-last (dec_le (y + 2) x)
   where
-    by_last : Dec (y + 2 ≤ x) → true ≡ listed xs x
-    by_last (yes g) = let e : x ≡ y + 2 = omega arith in listed-is xs (y + 2) x m e
-    by_last (no g) = listed-pair xs y x h k l (omega arith)
+    by-last : Dec (y + 2 ≤ x) → true ≡ listed xs x
+    by-last (yes g) = let e : x ≡ y + 2 = omega arith in listed-is xs (y + 2) x m e
+    by-last (no g) = listed-pair xs y x h k l (omega arith)
 
 pub listed-one : (y x : ℕ) → listed (y ∷ []) x ≡ eqb y x
 unfolding listed
@@ -93,12 +93,12 @@ listed-one y x = or-false (eqb y x)
     or-false true = refl
     or-false false = refl
 
-eqb_comm : (x y : ℕ) → eqb x y ≡ eqb y x
-eqb_comm x y = by_first (ℕ_discrete x y)
+eqb-comm : (x y : ℕ) → eqb x y ≡ eqb y x
+eqb-comm x y = by-first (ℕ_discrete x y)
   where
-    by_first : Dec (x ≡ y) → eqb x y ≡ eqb y x
-    by_first (yes e) = eq-eqb x y e ∙ sym (eq-eqb y x (sym e))
-    by_first (no n) = ne_eqb x y n ∙ sym (ne_eqb y x (λ e. n (sym e)))
+    by-first : Dec (x ≡ y) → eqb x y ≡ eqb y x
+    by-first (yes e) = eq-eqb x y e ∙ sym (eq-eqb y x (sym e))
+    by-first (no n) = ne_eqb x y n ∙ sym (ne_eqb y x (λ e. n (sym e)))
 
 -- one letter of a pattern against a place. None of the letters is 0, so that past the end 0 may be read
 module _ (letters : String) (more : List String) (s : List ℕ) (at : ℕ) (e : listed (points letters) (lower 0) ≡ false) where
@@ -108,7 +108,7 @@ module _ (letters : String) (more : List String) (s : List ℕ) (at : ℕ) (e : 
   met : Dec (length s ≤ at) → Met
   met (yes h) =
       ap (matches (letters ∷ more)) (drop_of_length-le s h)
-      ∙ sym (and_no _ _ (ap (λ (x : ℕ). listed (points letters) (lower x)) (get_or-eq_default s 0 h) ∙ e))
+      ∙ sym (and-no _ _ (ap (λ (x : ℕ). listed (points letters) (lower x)) (get_or-eq_default s 0 h) ∙ e))
   met (no h) = let inside : at < length s = omega arith in rw (add-one, drop-cons s at 0)
 
   pub matches-at : Met
@@ -131,7 +131,7 @@ is-g s at x e =
     ∙ and-true _
     ∙ listed-one (point "g") (lower (get_or s at 0))
     ∙ ap (eqb (point "g")) (sym e)
-    ∙ eqb_comm (point "g") x
+    ∙ eqb-comm (point "g") x
 
 -- ── a pattern against a place, by its first letter
 module _ (s : List ℕ) (at : ℕ) where
@@ -161,10 +161,10 @@ module _ (s : List ℕ) (at : ℕ) where
   -- x is the letter at the place and f the pattern's first
   module _ (k : ℕ) (h : k < 9) (x f : ℕ) (letter : x ≡ lower (get_or s at 0)) (first : f ≡ point (get_or (pattern k).0 0 "")) where
     pub begun : x ≡ f → matches (pattern k).0 (drop at s) ≡ matches (drop 1 (pattern k).0) (drop (at + 1) s)
-    begun e = by k h ∙ and_yes _ _ (eq-eqb _ _ (sym first ∙ sym e ∙ letter))
+    begun e = by k h ∙ and-yes _ _ (eq-eqb _ _ (sym first ∙ sym e ∙ letter))
 
     pub not-begun : (x ≡ f → ⊥) → matches (pattern k).0 (drop at s) ≡ false
-    not-begun n = by k h ∙ and_no _ _ (ne_eqb _ _ (λ e. n (letter ∙ sym e ∙ sym first)))
+    not-begun n = by k h ∙ and-no _ _ (ne_eqb _ _ (λ e. n (letter ∙ sym e ∙ sym first)))
 
 -- the other patterns have one letter
 pub one-letter : (k : ℕ) (s : List ℕ) → k < 9 → (k ≡ 0 → ⊥) → (k ≡ 6 → ⊥) → matches (drop 1 (pattern k).0) s ≡ true
@@ -193,8 +193,8 @@ module _ (p : List String) (s : List ℕ) where
       let d = drop-cons s at 0 h in
       ap (firstPlace p) d ∙ ap (λ (t : Bool). pickPlace t (some 0) (further 1 (firstPlace p (drop (suc at) s)))) (ap (matches p) (sym d) ∙ e)
 
-  pub place_here : (at : ℕ) → at < length s → matches p (drop at s) ≡ true → further at (firstPlace p (drop at s)) ≡ some at
-  place_here at h e = let z : at + 0 ≡ at = omega arith in ap (further at) (place-step at h true e) ∙ ap some z
+  pub place-here : (at : ℕ) → at < length s → matches p (drop at s) ≡ true → further at (firstPlace p (drop at s)) ≡ some at
+  place-here at h e = let z : at + 0 ≡ at = omega arith in ap (further at) (place-step at h true e) ∙ ap some z
 
   pub place-later : (at : ℕ) → at < length s → matches p (drop at s) ≡ false → further at (firstPlace p (drop at s)) ≡ further (at + 1) (firstPlace p (drop (at + 1) s))
   place-later at h e =
@@ -202,9 +202,9 @@ module _ (p : List String) (s : List ℕ) where
       ∙ further-further at 1 (firstPlace p (drop (suc at) s))
       ∙ ap (λ (n : ℕ). further (at + 1) (firstPlace p (drop n s))) (sym (add-one at))
 
-  pub place_end : (at : ℕ) → length s ≤ at → further at (firstPlace p (drop at s)) ≡ none
+  pub place-end : (at : ℕ) → length s ≤ at → further at (firstPlace p (drop at s)) ≡ none
   unfolding firstPlace
-  place_end at h = ap (λ (t : List ℕ). further at (firstPlace p t)) (drop_of_length-le s h)
+  place-end at h = ap (λ (t : List ℕ). further at (firstPlace p t)) (drop_of_length-le s h)
 
 -- ── one pattern after another
 module _ (s : List ℕ) where
@@ -212,41 +212,41 @@ module _ (s : List ℕ) where
   unfolding toneLetter
   search-start = refl
 
-  search-step : (k : ℕ) → k < length patterns → searched (drop k patterns) s ≡ or_else (further (pattern k).1 (firstPlace (pattern k).0 s)) (searched (drop (k + 1) patterns) s)
+  search-step : (k : ℕ) → k < length patterns → searched (drop k patterns) s ≡ orElse (further (pattern k).1 (firstPlace (pattern k).0 s)) (searched (drop (k + 1) patterns) s)
   unfolding searched
   search-step k h = rw (add-one, drop-cons patterns k ([], 0) h)
 
   pub search-here : (k at : ℕ) → k < length patterns → firstPlace (pattern k).0 s ≡ some at → searched (drop k patterns) s ≡ some ((pattern k).1 + at)
-  search-here k at h e = search-step k h ∙ ap (λ (o : Option ℕ). or_else (further (pattern k).1 o) (searched (drop (k + 1) patterns) s)) e
+  search-here k at h e = search-step k h ∙ ap (λ (o : Option ℕ). orElse (further (pattern k).1 o) (searched (drop (k + 1) patterns) s)) e
 
   pub search-next : (k : ℕ) → k < length patterns → firstPlace (pattern k).0 s ≡ none → searched (drop k patterns) s ≡ searched (drop (k + 1) patterns) s
-  search-next k h e = search-step k h ∙ ap (λ (o : Option ℕ). or_else (further (pattern k).1 o) (searched (drop (k + 1) patterns) s)) e
+  search-next k h e = search-step k h ∙ ap (λ (o : Option ℕ). orElse (further (pattern k).1 o) (searched (drop (k + 1) patterns) s)) e
 
   pub search-end : (k : ℕ) → length patterns ≤ k → searched (drop k patterns) s ≡ none
   unfolding searched
   search-end k h = ap (λ (ps : List (List String × ℕ)). searched ps s) (drop_of_length-le patterns h)
 
 -- ── a text without o has neither of the first two patterns
-place_none : (p : List String) (s : List ℕ) → ((at : ℕ) → at < length s → matches p (drop at s) ≡ false) → firstPlace p s ≡ none
+place-none : (p : List String) (s : List ℕ) → ((at : ℕ) → at < length s → matches p (drop at s) ≡ false) → firstPlace p s ≡ none
 unfolding firstPlace
-place_none p [] h = refl
-place_none p (x ∷ s) h =
-    ap (λ (b : Bool). pickPlace b (some 0) (further 1 (firstPlace p s))) (h 0 (omega arith)) ∙ ap (further 1) (place_none p s (λ at l. h (suc at) (omega arith)))
+place-none p [] h = refl
+place-none p (x ∷ s) h =
+    ap (λ (b : Bool). pickPlace b (some 0) (further 1 (firstPlace p s))) (h 0 (omega arith)) ∙ ap (further 1) (place-none p s (λ at l. h (suc at) (omega arith)))
 
 pub no-o : (s : List ℕ) → ((at : ℕ) → at < length s → eqb (lower (get_or s at 0)) (point "o") ≡ false) → toneLetter s ≡ searched (drop 2 patterns) s
 no-o s h =
     search-start s
-    ∙ search-next s 0 (omega arith) (place_none (pattern 0).0 s (λ at l. not-begun s at 0 (omega arith) _ _ refl refl (eqb-false _ _ (h at l))))
-    ∙ search-next s 1 (omega arith) (place_none (pattern 1).0 s (λ at l. not-begun s at 1 (omega arith) _ _ refl refl (eqb-false _ _ (h at l))))
+    ∙ search-next s 0 (omega arith) (place-none (pattern 0).0 s (λ at l. not-begun s at 0 (omega arith) _ _ refl refl (eqb-false _ _ (h at l))))
+    ∙ search-next s 1 (omega arith) (place-none (pattern 1).0 s (λ at l. not-begun s at 1 (omega arith) _ _ refl refl (eqb-false _ _ (h at l))))
 
 -- one place more without it
 pub o-later : (s : List ℕ) (at : ℕ) → ((i : ℕ) → i < at → eqb (lower (get_or s i 0)) (point "o") ≡ false) → eqb (lower (get_or s at 0)) (point "o") ≡ false
     → (i : ℕ) → i < at + 1 → eqb (lower (get_or s i 0)) (point "o") ≡ false
-o-later s at h e i l = by_place (ℕ_discrete i at)
+o-later s at h e i l = by-place (ℕ_discrete i at)
   where
-    by_place : Dec (i ≡ at) → eqb (lower (get_or s i 0)) (point "o") ≡ false
-    by_place (yes z) = ap (λ (k : ℕ). eqb (lower (get_or s k 0)) (point "o")) z ∙ e
-    by_place (no z) = h i (omega arith)
+    by-place : Dec (i ≡ at) → eqb (lower (get_or s i 0)) (point "o") ≡ false
+    by-place (yes z) = ap (λ (k : ℕ). eqb (lower (get_or s k 0)) (point "o")) z ∙ e
+    by-place (no z) = h i (omega arith)
 
 -- ── the tone letter stands in the text
 -- what is n further than a place is some, only where the place is
@@ -257,7 +257,7 @@ further-is n (some m) k e f = f m refl (some-injective k (n + m) (sym e))
 matches-fits : (p : List String) (s : List ℕ) → matches p s ≡ true → length p ≤ length s
 matches-fits [] s e = omega arith
 matches-fits (letters ∷ p) [] e = absurd (false-true e)
-matches-fits (letters ∷ p) (x ∷ s) e = let rest = matches-fits p s (and_right (listed (points letters) (lower x)) (matches p s) e) in omega arith
+matches-fits (letters ∷ p) (x ∷ s) e = let rest = matches-fits p s (and-right (listed (points letters) (lower x)) (matches p s) e) in omega arith
 
 place-fits : (p : List String) (s : List ℕ) (k : ℕ) → firstPlace p s ≡ some k → k + length p ≤ length s
 unfolding firstPlace
@@ -278,7 +278,7 @@ abbrev Inside : List (List String × ℕ) → Type 0
 Inside [] = Unit {0}
 Inside (p ∷ ps) = (p.1 < length p.0) × Inside ps
 
-or-else-is : {P : Type 0} (o q : Option ℕ) (k : ℕ) → or_else o q ≡ some k → (o ≡ some k → P) → (q ≡ some k → P) → P
+or-else-is : {P : Type 0} (o q : Option ℕ) (k : ℕ) → orElse o q ≡ some k → (o ≡ some k → P) → (q ≡ some k → P) → P
 or-else-is none q k e f g = g e
 or-else-is (some m) q k e f g = f e
 
@@ -297,8 +297,8 @@ tone-letter-below s k e = search-below patterns (omega arith) s k e
 
 -- ── the calls
 -- what was found, as the definition has it
-pub letter-found : (s : List ℕ) {p x : Place} → p ≡ x → place_of p ≡ toneLetter s → place_of x ≡ toneLetter s
-letter-found s e h = ap place_of (sym e) ∙ h
+pub letter-found : (s : List ℕ) {p x : Place} → p ≡ x → placeOf p ≡ toneLetter s → placeOf x ≡ toneLetter s
+letter-found s e h = ap placeOf (sym e) ∙ h
 
 module _ (t : Table) (text : List ℕ) where
   pub letter-refused : (why : Refusal) → checkText t text ≡ bad why → refused why [] ≡ toneLetterCall t text
@@ -313,6 +313,6 @@ module _ (t : Table) (text : List ℕ) where
   unfolding hasToneLetterCall
   has-refused why e = sym (ap (hasToneLetterOf t) e)
 
-  pub has-good : (s : List ℕ) → checkText t text ≡ good s → hasLetterReply (is_some (toneLetter (nfd t s))) ≡ hasToneLetterCall t text
+  pub has-good : (s : List ℕ) → checkText t text ≡ good s → hasLetterReply (isSome (toneLetter (nfd t s))) ≡ hasToneLetterCall t text
   unfolding hasToneLetterCall hasToneLetter
   has-good s e = sym (ap (hasToneLetterOf t) e)

@@ -13,10 +13,10 @@ use Rattle.ucd.specs.Table.{Table, All, listed}
 use Rattle.ji.specs.Text.{points, lower}
 use Rattle.ji.specs.Nfd.{nfd}
 use Rattle.ji.specs.Lomaji.Strip.{toneMarks, markIn, isToneMark, withoutMarks, stripped, strip}
-use Rattle.ji.specs.Lomaji.ToneLetter.{patterns, matches, pickPlace, further, or_else, firstPlace, searched, toneLetter, is_some, hasToneLetter}
+use Rattle.ji.specs.Lomaji.ToneLetter.{patterns, matches, pickPlace, further, orElse, firstPlace, searched, toneLetter, isSome, hasToneLetter}
 use Rattle.ji.specs.declared.tone.Tone.{Tone}
-use Rattle.ji.proofs.Bools.{either, false-true, and-true, and_left, and_no, and_yes, or_yes, or_no, number-no, within-above}
-use Rattle.ji.proofs.lomaji.strip.Commuting.{without-mark, without_other}
+use Rattle.ji.proofs.Bools.{either, false-true, and-true, and-left, and-no, and-yes, or-yes, or-no, number-no, within-above}
+use Rattle.ji.proofs.lomaji.strip.Commuting.{without-mark, without-other}
 use Rattle.ji.proofs.lomaji.tone_letter.Laws.{listed-none, listed-one}
 
 -- ── marks are no letters
@@ -29,15 +29,15 @@ high-in [] h c e = absurd (false-true e)
 high-in (m ∷ ms) h c e =
     either (eqb m.0 c)
     (λ y. omega (arith, h.0, eqb-true m.0 c y))
-    (λ n. high-in ms h.1 c (sym (or_no (eqb m.0 c) (markIn ms c) n) ∙ e))
+    (λ n. high-in ms h.1 c (sym (or-no (eqb m.0 c) (markIn ms c) n) ∙ e))
 
 mark-high : (c : ℕ) → isToneMark c ≡ true → 0x0300 ≤ c
 unfolding isToneMark
 mark-high c e = high-in toneMarks (omega arith) c e
 
-lower_high : (c : ℕ) → 0x0300 ≤ c → lower c ≡ c
+lower-high : (c : ℕ) → 0x0300 ≤ c → lower c ≡ c
 unfolding lower
-lower_high c h = number-no _ _ _ (within-above 65 90 c (omega arith))
+lower-high c h = number-no _ _ _ (within-above 65 90 c (omega arith))
 
 abbrev Low : List ℕ → Type 0
 Low xs = All (λ y. y < 0x0300) xs
@@ -48,31 +48,31 @@ low-differ (y ∷ xs) x h k = ((λ e. omega (arith, h.0)), low-differ xs x h.1 k
 
 mark-unlisted : (xs : List ℕ) → Low xs → (c : ℕ) → isToneMark c ≡ true → listed xs (lower c) ≡ false
 mark-unlisted xs h c e =
-    ap (listed xs) (lower_high c (mark-high c e)) ∙ sym (listed-none xs c (low-differ xs c h (mark-high c e)))
+    ap (listed xs) (lower-high c (mark-high c e)) ∙ sym (listed-none xs c (low-differ xs c h (mark-high c e)))
 
 -- ── whether a pattern stands anywhere
-place-some : (p : List String) (x : ℕ) (s : List ℕ) → is_some (firstPlace p (x ∷ s)) ≡ (matches p (x ∷ s) || is_some (firstPlace p s))
+place-some : (p : List String) (x : ℕ) (s : List ℕ) → isSome (firstPlace p (x ∷ s)) ≡ (matches p (x ∷ s) || isSome (firstPlace p s))
 unfolding firstPlace
 place-some p x s = picked (matches p (x ∷ s)) (firstPlace p s)
   where
-    picked : (b : Bool) (o : Option ℕ) → is_some (pickPlace b (some 0) (further 1 o)) ≡ (b || is_some o)
+    picked : (b : Bool) (o : Option ℕ) → isSome (pickPlace b (some 0) (further 1 o)) ≡ (b || isSome o)
     picked true o = refl
     picked false none = refl
     picked false (some k) = refl
 
 module _ (letters : String) where
   abbrev Found : List ℕ → Bool
-  Found s = is_some (firstPlace (letters ∷ []) s)
+  Found s = isSome (firstPlace (letters ∷ []) s)
 
   -- where a pattern stands, its first letter stands
-  begins-found : (more : List String) (s : List ℕ) → is_some (firstPlace (letters ∷ more) s) ≡ true → Found s ≡ true
+  begins-found : (more : List String) (s : List ℕ) → isSome (firstPlace (letters ∷ more) s) ≡ true → Found s ≡ true
   unfolding firstPlace
   begins-found more [] e = e
   begins-found more (x ∷ s) e =
       place-some (letters ∷ []) x s
       ∙ either (matches (letters ∷ more) (x ∷ s))
-      (λ y. or_yes _ _ (and_yes _ _ (and_left (listed (points letters) (lower x)) (matches more s) y)))
-      (λ n. either (matches (letters ∷ []) (x ∷ s)) (λ y. or_yes _ _ y) (λ m. or_no _ _ m ∙ begins-found more s (sym (or_no (matches (letters ∷ more) (x ∷ s)) _ n) ∙ sym (place-some (letters ∷ more) x s) ∙ e)))
+      (λ y. or-yes _ _ (and-yes _ _ (and-left (listed (points letters) (lower x)) (matches more s) y)))
+      (λ n. either (matches (letters ∷ []) (x ∷ s)) (λ y. or-yes _ _ y) (λ m. or-no _ _ m ∙ begins-found more s (sym (or-no (matches (letters ∷ more) (x ∷ s)) _ n) ∙ sym (place-some (letters ∷ more) x s) ∙ e)))
 
   -- a letter stands in a text just where it stands there without the marks
   found-without : Low (points letters) → (s : List ℕ) → Found (withoutMarks s) ≡ Found s
@@ -83,9 +83,9 @@ module _ (letters : String) where
       (λ y.
       ap Found (without-mark x s y)
       ∙ found-without h s
-      ∙ sym (place-some (letters ∷ []) x s ∙ or_no _ _ (and_no _ _ (mark-unlisted (points letters) h x y))))
+      ∙ sym (place-some (letters ∷ []) x s ∙ or-no _ _ (and-no _ _ (mark-unlisted (points letters) h x y))))
       (λ n.
-      ap Found (without_other x s n)
+      ap Found (without-other x s n)
       ∙ place-some (letters ∷ []) x (withoutMarks s)
       ∙ ap (λ (b : Bool). (listed (points letters) (lower x) && true) || b) (found-without h s)
       ∙ sym (place-some (letters ∷ []) x s))
@@ -93,34 +93,34 @@ module _ (letters : String) where
 -- ── whether one of several patterns does
 abbrev anywhere : List (List String × ℕ) → List ℕ → Bool
 anywhere [] s = false
-anywhere (p ∷ ps) s = is_some (firstPlace p.0 s) || anywhere ps s
+anywhere (p ∷ ps) s = isSome (firstPlace p.0 s) || anywhere ps s
 
-some-else : (n : ℕ) (o q : Option ℕ) → is_some (or_else (further n o) q) ≡ (is_some o || is_some q)
+some-else : (n : ℕ) (o q : Option ℕ) → isSome (orElse (further n o) q) ≡ (isSome o || isSome q)
 some-else n none q = refl
 some-else n (some k) q = refl
 
-searched-some : (ps : List (List String × ℕ)) (s : List ℕ) → is_some (searched ps s) ≡ anywhere ps s
+searched-some : (ps : List (List String × ℕ)) (s : List ℕ) → isSome (searched ps s) ≡ anywhere ps s
 unfolding searched
 searched-some [] s = refl
 searched-some (p ∷ ps) s =
-    some-else p.1 (firstPlace p.0 s) (searched ps s) ∙ ap (λ (b : Bool). is_some (firstPlace p.0 s) || b) (searched-some ps s)
+    some-else p.1 (firstPlace p.0 s) (searched ps s) ∙ ap (λ (b : Bool). isSome (firstPlace p.0 s) || b) (searched-some ps s)
 
 -- the patterns of one letter
 abbrev single : List (List String × ℕ)
 single = ("o" ∷ [], 0) ∷ ("a" ∷ [], 0) ∷ ("e" ∷ [], 0) ∷ ("u" ∷ [], 0) ∷ ("i" ∷ [], 0) ∷ ("n" ∷ [], 0) ∷ ("m" ∷ [], 0) ∷ []
 
 absorbed : (a b c : Bool) → (a ≡ true → b ≡ true) → (a || (b || c)) ≡ (b || c)
-absorbed true b c h = sym (or_yes b c (h refl))
+absorbed true b c h = sym (or-yes b c (h refl))
 absorbed false b c h = refl
 
 -- they decide it
-letter-single : (s : List ℕ) → is_some (toneLetter s) ≡ anywhere single s
+letter-single : (s : List ℕ) → isSome (toneLetter s) ≡ anywhere single s
 unfolding toneLetter
 letter-single s =
     searched-some patterns s
-    ∙ absorbed (is_some (firstPlace ("o" ∷ "ae" ∷ "ptkhmni" ∷ []) s)) (Found "o" s) _ (begins-found "o" ("ae" ∷ "ptkhmni" ∷ []) s)
+    ∙ absorbed (isSome (firstPlace ("o" ∷ "ae" ∷ "ptkhmni" ∷ []) s)) (Found "o" s) _ (begins-found "o" ("ae" ∷ "ptkhmni" ∷ []) s)
     ∙ ap (λ (b : Bool). Found "o" s || (Found "a" s || (Found "e" s || (Found "u" s || (Found "i" s || b)))))
-    (absorbed (is_some (firstPlace ("n" ∷ "g" ∷ []) s)) (Found "n" s) _ (begins-found "n" ("g" ∷ []) s))
+    (absorbed (isSome (firstPlace ("n" ∷ "g" ∷ []) s)) (Found "n" s) _ (begins-found "n" ("g" ∷ []) s))
 
 -- so that one letter after the other can be looked at
 or-or : (a b c d : Bool) → ((a || b) || (c || d)) ≡ ((a || c) || (b || d))
@@ -137,7 +137,7 @@ anywhere-step : (ps : List (List String × ℕ)) (x : ℕ) (s : List ℕ) → an
 anywhere-step [] x s = refl
 anywhere-step (p ∷ ps) x s =
     ap₂ (λ (a b : Bool). a || b) (place-some p.0 x s) (anywhere-step ps x s)
-    ∙ or-or (matches p.0 (x ∷ s)) (is_some (firstPlace p.0 s)) (matchesAny ps (x ∷ s)) (anywhere ps s)
+    ∙ or-or (matches p.0 (x ∷ s)) (isSome (firstPlace p.0 s)) (matchesAny ps (x ∷ s)) (anywhere ps s)
 
 single-letter : (x : ℕ) (s : List ℕ) → matchesAny single (x ∷ s) ≡ listed (points "oaeuinm") (lower x)
 unfolding listed
@@ -145,13 +145,13 @@ single-letter x s =
     let one : (y : ℕ) → (listed (y ∷ []) (lower x) && true) ≡ eqb y (lower x) = λ y. and-true _ ∙ listed-one y (lower x) in
     simp (one 111, one 97, one 101, one 117, one 105, one 110, one 109)
 
-pub letter-more : (x : ℕ) (s : List ℕ) → is_some (toneLetter (x ∷ s)) ≡ (listed (points "oaeuinm") (lower x) || is_some (toneLetter s))
+pub letter-more : (x : ℕ) (s : List ℕ) → isSome (toneLetter (x ∷ s)) ≡ (listed (points "oaeuinm") (lower x) || isSome (toneLetter s))
 letter-more x s =
     letter-single (x ∷ s)
     ∙ anywhere-step single x s
     ∙ ap₂ (λ (a b : Bool). a || b) (single-letter x s) (sym (letter-single s))
 
-pub letter-nil : is_some (toneLetter []) ≡ false
+pub letter-nil : isSome (toneLetter []) ≡ false
 unfolding toneLetter searched firstPlace
 letter-nil = refl
 
@@ -168,13 +168,13 @@ anywhere-without ((l ∷ [], n) ∷ ps) h s = ap₂ (λ (a b : Bool). a || b) (f
 anywhere-without ((l ∷ (k ∷ ls), n) ∷ ps) h s = absurd h
 
 -- a text has a tone letter just where it has one without its marks
-pub letter-without : (s : List ℕ) → is_some (toneLetter (withoutMarks s)) ≡ is_some (toneLetter s)
+pub letter-without : (s : List ℕ) → isSome (toneLetter (withoutMarks s)) ≡ isSome (toneLetter s)
 letter-without s =
     letter-single (withoutMarks s)
     ∙ anywhere-without single (omega arith) s
     ∙ sym (letter-single s)
 
 -- so the stripped text tells whether the text has one
-pub letter-stripped : (t : Table) (s : List ℕ) → is_some (toneLetter (strip t s).rest) ≡ hasToneLetter t s
+pub letter-stripped : (t : Table) (s : List ℕ) → isSome (toneLetter (strip t s).rest) ≡ hasToneLetter t s
 unfolding hasToneLetter stripped
 letter-stripped t s = letter-without (nfd t s)

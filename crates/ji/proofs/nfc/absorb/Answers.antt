@@ -2,7 +2,7 @@
 use mathlib.Core.Path.{refl, sym, ◌∙◌, ap}
 use native.Mathlib.Omega.{arith}
 use Rattle.ucd.specs.Unicode16.{unicode16}
-use Rattle.ucd.specs.Answer.{point_of}
+use Rattle.ucd.specs.Answer.{pointOf}
 use Rattle.ji.specs.Nfc.{reversed}
 use Rattle.ji.proofs.ComposeLoops.{searching-start, searching-more, searching-blocked, searching-none, searching-some, searching-end, low-stays}
 use Rattle.ji.proofs.nfc.absorb.Goals as goal
@@ -16,12 +16,12 @@ loop-i-init c = searching-start unicode16 c.args.s.now c.args.c
 pub returns-in-Point : goal.returns-in-Point
 returns-in-Point c =
     searching-some unicode16 c.loop-i.invariant c.loop-i-test.true (sym c.class_of-before.ensures ∙ c.if-before-eq0.true)
-    c.in-Point.p (sym (ap point_of c.in-Point.is) ∙ c.composite.ensures)
+    c.in-Point.p (sym (ap pointOf c.in-Point.is) ∙ c.composite.ensures)
 
 pub returns-in-Nothing : goal.returns-in-Nothing
 returns-in-Nothing c =
     searching-none unicode16 c.loop-i.invariant c.loop-i-test.true (sym c.class_of-before.ensures ∙ c.if-before-eq0.true)
-    (sym (ap point_of c.in-Nothing.is) ∙ c.composite.ensures)
+    (sym (ap pointOf c.in-Nothing.is) ∙ c.composite.ensures)
 
 pub returns-then-class-before : goal.returns-then-class-before
 returns-then-class-before c =

@@ -15,7 +15,7 @@ use Rattle.ji.specs.Utf8.{encode}
 use Rattle.ji.specs.Normalising.{exchanged}
 use Rattle.ji.proofs.text.Laws.{replace-same-length}
 use Rattle.ji.proofs.Order.{order-length}
-use Rattle.ji.proofs.Writing.{written_from, written-drop, written_over}
+use Rattle.ji.proofs.Writing.{written-from, written-drop, written-over}
 use Rattle.ji.proofs.Readings.{front}
 use native.Mathlib.Omega.{arith}
 use Rattle.ji.proofs.nfc.place_in.Goals as goal
@@ -34,7 +34,7 @@ module _ (s before d : List ℕ) (n : ℕ) (w : Written before d n (full t s)) (
   size = order-length t (full t s) ∙ w.size
 
   whole : Written before (nfd t s ++ drop n d) n (nfd t s)
-  whole = written_over w (nfd t s) size
+  whole = written-over w (nfd t s) size
 
   abbrev buffer : List ℕ
   buffer = o ++ drop (n - 0) d
@@ -51,7 +51,7 @@ module _ (s before d : List ℕ) (n : ℕ) (w : Written before d n (full t s)) (
   module _ (r : ℕ) (e : List ℕ) (is-r : r ≡ length (compose t (take (n - 0) buffer))) (is-e : e ≡ compose t (take (n - 0) buffer) ++ drop r (take (n - 0) buffer)) (kept : length e ≡ length (take (n - 0) buffer)) where
     left : Written (nfd t s) e r (nfc t s)
     unfolding nfc
-    left = subst (λ (u : List ℕ). Written u e r (compose t u)) part (written_from _ _ _ _ is-r is-e kept)
+    left = subst (λ (u : List ℕ). Written u e r (compose t u)) part (written-from _ _ _ _ is-r is-e kept)
 
     normalised : (r ≡ length (nfc t s)) × (e ++ drop (n - 0) buffer ≡ over (nfc t s) (over (nfd t s) before))
     normalised = (

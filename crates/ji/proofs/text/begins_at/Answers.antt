@@ -6,7 +6,7 @@ use native.Mathlib.Omega.{arith}
 use borrow.Author.Tests.{eq-eqb, ne_eqb}
 use lib.ListN.{drop, length-drop}
 use Rattle.ji.specs.Text.{begins}
-use Rattle.ji.proofs.Bools.{and_yes, and_no}
+use Rattle.ji.proofs.Bools.{and-yes, and-no}
 use Rattle.ji.proofs.text.Laws.{begins-short, begins-step, begins-end}
 use Rattle.ji.proofs.text.begins_at.Goals as goal
 
@@ -24,7 +24,7 @@ pub returns-then-s-at-2 : goal.returns-then-s-at-2
 returns-then-s-at-2 c =
     let l = c.loop-k in
     let a = c.args in
-    sym (l.invariant.1 ∙ begins-step a.pattern.now a.s.now l.k (a.at + l.k) (omega arith) (omega arith) ∙ and_no _ _ (ne_eqb _ _ c.if-s-at-2.true))
+    sym (l.invariant.1 ∙ begins-step a.pattern.now a.s.now l.k (a.at + l.k) (omega arith) (omega arith) ∙ and-no _ _ (ne_eqb _ _ c.if-s-at-2.true))
 
 pub loop-k-preserved : goal.loop-k-preserved
 loop-k-preserved c =
@@ -33,7 +33,7 @@ loop-k-preserved c =
       omega arith,
       l.invariant.1
           ∙ begins-step a.pattern.now a.s.now l.k (a.at + l.k) (omega arith) (omega arith)
-          ∙ and_yes _ _ (eq-eqb _ _ c.if-s-at-2.false)
+          ∙ and-yes _ _ (eq-eqb _ _ c.if-s-at-2.false)
           ∙ ap (λ (n : ℕ). begins (drop (l.k + 1) a.pattern.now) (drop n a.s.now)) (add_assoc a.at l.k 1),
     )
 

@@ -37,11 +37,11 @@ module _ (c : In-loop-i) where
   h : Goes s i
   h = c.loop-i.invariant
 
-  same_size : length s ≡ length s₀
-  same_size = written-length h.written
+  same-size : length s ≡ length s₀
+  same-size = written-length h.written
 
   more : i < length s₀
-  more = omega (arith, same_size)
+  more = omega (arith, same-size)
 
   -- behind i the text is as it was
   begins-as : (b : Bool) → begins pattern (drop i s) ≡ b → begins pattern (drop i s₀) ≡ b
@@ -64,7 +64,7 @@ pub loop-i-init : goal.loop-i-init
 loop-i-init c = let a = c.args in underway-start (replaceAll a.pattern.now a.by.now) a.s.now a.s.now
 
 pub put-i-requires : goal.put-i-requires
-put-i-requires c = rw (same_size (goal.at.put-i-requires c).In-loop-i) (hit-room (goal.at.put-i-requires c).In-loop-i (begins-as (goal.at.put-i-requires c).In-loop-i true (sym c.begins_at.ensures ∙ c.if-begins_at.true)))
+put-i-requires c = rw (same-size (goal.at.put-i-requires c).In-loop-i) (hit-room (goal.at.put-i-requires c).In-loop-i (begins-as (goal.at.put-i-requires c).In-loop-i true (sym c.begins_at.ensures ∙ c.if-begins_at.true)))
 
 pub loop-i-smaller-then-begins_at : goal.loop-i-smaller-then-begins_at
 loop-i-smaller-then-begins_at c =

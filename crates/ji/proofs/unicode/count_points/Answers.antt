@@ -5,20 +5,20 @@ use Prim.Native.Nat.{ℕ, ◌+◌, ◌-◌, ◌≤◌, ◌<◌}
 use lib.ListN.{length, drop, get_or, length-append}
 use Rattle.ucd.specs.Table.{member}
 use Rattle.ucd.specs.Unicode16.{unicode16}
-use Rattle.ji.specs.Utf8.{width_at, pointAt, ReadOf}
+use Rattle.ji.specs.Utf8.{widthAt, pointAt, ReadOf}
 use Rattle.ji.specs.Unicode.{accepted}
 use Rattle.ji.proofs.utf8.Decoding.{width-most}
 use Rattle.ji.proofs.unicode.Laws.{accepted-end}
-use Rattle.ji.proofs.unicode.Reader.{taken_start, taken-end, taken-all, taken-ill, taken-outside, taken_more}
+use Rattle.ji.proofs.unicode.Reader.{taken-start, taken-end, taken-all, taken-ill, taken-outside, taken-more}
 use native.Mathlib.Omega.{arith}
-use Rattle.ji.proofs.utf8.Laws.{read_one}
+use Rattle.ji.proofs.utf8.Laws.{read-one}
 use Rattle.ji.proofs.unicode.Ascii.{ascii-member}
 use Rattle.ji.proofs.unicode.count_points.Invariants.{Counted}
 use Rattle.ji.proofs.unicode.count_points.Goals as goal
 
 -- a turn that reads a sequence of width w and code point p
 module _ (s : List ℕ) (i w p : ℕ) (q : ReadOf (drop i s) w p) (some : w ≡ 0 → ⊥) where
-  positive : 0 < width_at (drop i s)
+  positive : 0 < widthAt (drop i s)
   positive = omega (arith, q.wide, some)
 
   step : w ≤ 4
@@ -28,7 +28,7 @@ module _ (s : List ℕ) (i w p : ℕ) (q : ReadOf (drop i s) w p) (some : w ≡ 
   told b e = ap (member unicode16) (sym (q.read (omega (arith, some)))) ∙ sym e
 
 pub loop-i-init : goal.loop-i-init
-loop-i-init c = let a = c.args in ([], taken_start unicode16 a.s.now, refl, omega arith)
+loop-i-init c = let a = c.args in ([], taken-start unicode16 a.s.now, refl, omega arith)
 
 pub returns-then-width-eq0 : goal.returns-then-width-eq0
 returns-then-width-eq0 c =
@@ -38,7 +38,7 @@ returns-then-width-eq0 c =
 one-more : (s : List ℕ) (i n w p : ℕ) (taken : Counted s i n) → i < length s → ReadOf (drop i s) w p → (w ≡ 0 → ⊥) → member unicode16 p ≡ true → Counted s (i + w) (n + 1)
 one-more s i n w p (u, taken, size, few) h q some m = (
   u ++ (pointAt (drop i s) ∷ []),
-  rw q.wide (taken_more unicode16 s u i taken h (positive s i w p q some) (told s i w p q some true (sym m))),
+  rw q.wide (taken-more unicode16 s u i taken h (positive s i w p q some) (told s i w p q some true (sym m))),
   omega (arith, size, length-append u (pointAt (drop i s) ∷ [])),
   omega (arith, few, some),
 )
@@ -48,7 +48,7 @@ loop-i-preserved-then-s-i-lt128 c =
     let l = c.loop-i in
     let low = c.if-s-i-lt128.true in
     let s = c.args.s.now in
-    one-more s l.i l.n 1 (get_or s l.i 0) l.invariant c.loop-i-test.true (read_one s l.i c.loop-i-test.true (omega arith)) (λ z. omega arith) (ascii-member (get_or s l.i 0) low)
+    one-more s l.i l.n 1 (get_or s l.i 0) l.invariant c.loop-i-test.true (read-one s l.i c.loop-i-test.true (omega arith)) (λ z. omega arith) (ascii-member (get_or s l.i 0) low)
 
 pub overflow_add-i-then-is_member : goal.overflow_add-i-then-is_member
 overflow_add-i-then-is_member c =

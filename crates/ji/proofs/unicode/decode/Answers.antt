@@ -7,8 +7,8 @@ use lib.Dec.{T}
 use lib.Seq.{paste}
 use Rattle.ucd.specs.Table.{member}
 use Rattle.ucd.specs.Unicode16.{unicode16}
-use Rattle.ucd.proofs.Unicode16.{member_below}
-use Rattle.ji.specs.Utf8.{width_at, pointAt, ReadOf, decode, isDecoded}
+use Rattle.ucd.proofs.Unicode16.{member-below}
+use Rattle.ji.specs.Utf8.{widthAt, pointAt, ReadOf, decode, isDecoded}
 use Rattle.ji.specs.Unicode.{accepted, spread}
 use Rattle.ji.specs.Reading.{spreadText, faultIn, Reading}
 use Rattle.ji.specs.declared.reply.Refusal.TheVariants.{IllFormed, OutsideTable}
@@ -16,20 +16,20 @@ use Rattle.ji.specs.declared.unicode.Spread.{Spread}
 use Rattle.ji.specs.declared.unicode.Decoded.TheVariants.{Refused}
 use Rattle.ji.proofs.Writing.{written-length}
 use Rattle.ji.proofs.utf8.Decoding.{width-most}
-use Rattle.ji.proofs.unicode.Reader.{Read, read-start, read-end, read-ill, read-outside, read-room, read_more}
+use Rattle.ji.proofs.unicode.Reader.{Read, read-start, read-end, read-ill, read-outside, read-room, read-more}
 use native.Mathlib.Omega.{arith}
 use Rattle.ji.specs.declared.unicode.Spread.TheVariants.{One}
-use Rattle.ji.proofs.utf8.Laws.{read_one}
+use Rattle.ji.proofs.utf8.Laws.{read-one}
 use Rattle.ji.proofs.unicode.Laws.{spread-itself}
 use Rattle.ji.proofs.unicode.Ascii.{ascii-member}
 use Rattle.ji.proofs.unicode.decode.Goals as goal
 
 -- a turn that reads a sequence of width w and code point p
 module _ (d : Bool) (s before out : List ℕ) (i n w p : ℕ) (r : Read unicode16 d s before out i n) (h : i < length s) (q : ReadOf (drop i s) w p) (some : w ≡ 0 → ⊥) where
-  wide : w ≡ width_at (drop i s)
+  wide : w ≡ widthAt (drop i s)
   wide = q.wide
 
-  positive : 0 < width_at (drop i s)
+  positive : 0 < widthAt (drop i s)
   positive = omega (arith, wide, some)
 
   point : p ≡ pointAt (drop i s)
@@ -48,21 +48,21 @@ module _ (d : Bool) (s before out : List ℕ) (i n w p : ℕ) (r : Read unicode1
     inside = ap (member unicode16) (sym point) ∙ sym m
 
     low : p < 0xD800
-    low = member_below p (subst T m tt)
+    low = member-below p (subst T m tt)
 
     module _ (x : Spread) (e : spreadText x ≡ spread unicode16 d (p ∷ [])) (room : length (spread unicode16 d (accepted unicode16 s)) ≤ length before) where
-      same_text : spread unicode16 d (pointAt (drop i s) ∷ []) ≡ spreadText x
-      same_text = ap (λ (k : ℕ). spread unicode16 d (k ∷ [])) (sym point) ∙ sym e
+      same-text : spread unicode16 d (pointAt (drop i s) ∷ []) ≡ spreadText x
+      same-text = ap (λ (k : ℕ). spread unicode16 d (k ∷ [])) (sym point) ∙ sym e
 
       enough : n + length (spread unicode16 d (pointAt (drop i s) ∷ [])) ≤ length before
       enough = read-room unicode16 d s before out i n r h positive inside room
 
       room-left : n + length (spreadText x) ≤ length out
-      room-left = rw (written-length r.written, ← same_text) enough
+      room-left = rw (written-length r.written, ← same-text) enough
 
       again : (m' : ℕ) (out' : List ℕ) → m' ≡ n + length (spreadText x) → out' ≡ paste out n (spreadText x) (length (spreadText x)) → Read unicode16 d s before out' (i + w) m'
       again m' out' em eo =
-          rw (em, eo, wide, ← same_text) (read_more unicode16 d s before out i n r h positive inside enough)
+          rw (em, eo, wide, ← same-text) (read-more unicode16 d s before out i n r h positive inside enough)
 
 pub loop-i-init : goal.loop-i-init
 loop-i-init c = let a = c.args in read-start unicode16 a.decomposed a.s.now a.out.now
@@ -82,13 +82,13 @@ pub put-n-requires : goal.put-n-requires
 put-n-requires c =
     let x = c.args in
     let low = c.if-a-lt128.true in
-    room-left x.decomposed x.s.now x.out.now c.loop-i.out c.loop-i.i c.loop-i.n 1 (get_or x.s.now c.loop-i.i 0) c.loop-i.invariant c.loop-i-test.true (read_one x.s.now c.loop-i.i c.loop-i-test.true (omega arith)) (λ z. omega arith) (sym (ascii-member _ low)) (One (get_or x.s.now c.loop-i.i 0)) (sym (spread-itself x.decomposed _ (omega arith))) c.requires
+    room-left x.decomposed x.s.now x.out.now c.loop-i.out c.loop-i.i c.loop-i.n 1 (get_or x.s.now c.loop-i.i 0) c.loop-i.invariant c.loop-i-test.true (read-one x.s.now c.loop-i.i c.loop-i-test.true (omega arith)) (λ z. omega arith) (sym (ascii-member _ low)) (One (get_or x.s.now c.loop-i.i 0)) (sym (spread-itself x.decomposed _ (omega arith))) c.requires
 
 pub loop-i-preserved-then-a-lt128 : goal.loop-i-preserved-then-a-lt128
 loop-i-preserved-then-a-lt128 c =
     let x = c.args in
     let low = c.if-a-lt128.true in
-    again x.decomposed x.s.now x.out.now c.loop-i.out c.loop-i.i c.loop-i.n 1 (get_or x.s.now c.loop-i.i 0) c.loop-i.invariant c.loop-i-test.true (read_one x.s.now c.loop-i.i c.loop-i-test.true (omega arith)) (λ z. omega arith) (sym (ascii-member _ low)) (One (get_or x.s.now c.loop-i.i 0)) (sym (spread-itself x.decomposed _ (omega arith))) c.requires c.put-n.result c.put-n.new.out c.put-n.ensures.0 c.put-n.ensures.1
+    again x.decomposed x.s.now x.out.now c.loop-i.out c.loop-i.i c.loop-i.n 1 (get_or x.s.now c.loop-i.i 0) c.loop-i.invariant c.loop-i-test.true (read-one x.s.now c.loop-i.i c.loop-i-test.true (omega arith)) (λ z. omega arith) (sym (ascii-member _ low)) (One (get_or x.s.now c.loop-i.i 0)) (sym (spread-itself x.decomposed _ (omega arith))) c.requires c.put-n.result c.put-n.new.out c.put-n.ensures.0 c.put-n.ensures.1
 
 pub put-n-requires-then-is_member : goal.put-n-requires-then-is_member
 put-n-requires-then-is_member c =

@@ -3,26 +3,26 @@ use mathlib.Core.List.{List, [], ◌∷◌}
 use Prim.Native.Nat.{ℕ, ◌+◌, ◌/◌, ◌%◌}
 use lib.ListN.{length, length-set}
 use lib.Seq.{paste}
-use Rattle.ji.specs.Utf8.{bytes_of}
+use Rattle.ji.specs.Utf8.{bytesOf}
 use Rattle.ji.proofs.Writing.{stores-1, stores-2, stores-3}
-use Rattle.ji.proofs.utf8.Encoding.{bytes_one, bytes-two, bytes-three}
+use Rattle.ji.proofs.utf8.Encoding.{bytes-one, bytes-two, bytes-three}
 use native.Mathlib.Omega.{arith}
 use Rattle.ji.proofs.utf8.put_point.Goals as goal
 use Rattle.ji.proofs.utf8.put_point.Goals.{Else-x-le2047, Then-x-le127, Then-x-le2047}
 
 -- the bytes in each branch
-is1 : (c : Then-x-le127) → bytes_of c.args.x ≡ c.args.x ∷ []
-is1 c = bytes_one c.args.x c.if-x-le127.true
+is1 : (c : Then-x-le127) → bytesOf c.args.x ≡ c.args.x ∷ []
+is1 c = bytes-one c.args.x c.if-x-le127.true
 
-is2 : (c : Then-x-le2047) → bytes_of c.args.x ≡ (0xC0 + c.args.x / 64) ∷ (0x80 + c.args.x % 64) ∷ []
+is2 : (c : Then-x-le2047) → bytesOf c.args.x ≡ (0xC0 + c.args.x / 64) ∷ (0x80 + c.args.x % 64) ∷ []
 is2 c = bytes-two c.args.x c.if-x-le127.false c.if-x-le2047.true
 
-is3 : (c : Else-x-le2047) → bytes_of c.args.x ≡ (0xE0 + c.args.x / 4096) ∷ (0x80 + c.args.x / 64 % 64) ∷ (0x80 + c.args.x % 64) ∷ []
+is3 : (c : Else-x-le2047) → bytesOf c.args.x ≡ (0xE0 + c.args.x / 4096) ∷ (0x80 + c.args.x / 64 % 64) ∷ (0x80 + c.args.x % 64) ∷ []
 is3 c = bytes-three c.args.x c.if-x-le2047.false c.requires.0
 
 -- a run of stores writes the bytes
-module _ (a : List ℕ) (at x : ℕ) (s d : List ℕ) (e : bytes_of x ≡ s) where
-  stored : d ≡ paste a at s (length s) → (at + length s ≡ at + length (bytes_of x)) × (d ≡ paste a at (bytes_of x) (length (bytes_of x)))
+module _ (a : List ℕ) (at x : ℕ) (s d : List ℕ) (e : bytesOf x ≡ s) where
+  stored : d ≡ paste a at s (length s) → (at + length s ≡ at + length (bytesOf x)) × (d ≡ paste a at (bytesOf x) (length (bytesOf x)))
   stored p = (ap (λ (t : List ℕ). at + length t) (sym e), p ∙ ap (λ (t : List ℕ). paste a at t (length t)) (sym e))
 
 pub bounds-out-at : goal.bounds-out-at

@@ -1,7 +1,7 @@
 use mathlib.Core.Path.{refl, sym, ◌∙◌, ap}
 use Prim.Native.Nat.{ℕ, ◌+◌, ◌-◌, ◌<◌}
 use lib.ListN.{drop}
-use Rattle.ji.specs.Utf8.{width_at, decode, isDecoded}
+use Rattle.ji.specs.Utf8.{widthAt, decode, isDecoded}
 use Rattle.ji.proofs.utf8.Decoding.{width-most, decode-at-ill, decode-end, decoded-at}
 use native.Mathlib.Omega.{arith}
 use Rattle.ji.proofs.utf8.well_formed.Goals as goal
@@ -26,7 +26,7 @@ loop-i-preserved c =
     let l = c.loop-i in
     let a = c.args in
     let e = c.read_at-sequence.ensures.wide in
-    let pos : 0 < width_at (drop l.i a.s.now) = omega arith in
+    let pos : 0 < widthAt (drop l.i a.s.now) = omega arith in
     l.invariant ∙ decoded-at a.s.now l.i c.loop-i-test.true pos ∙ ap (λ (w : ℕ). isDecoded (decode (drop (l.i + w) a.s.now))) (sym e)
 
 pub returns : goal.returns

@@ -12,7 +12,7 @@ use Rattle.ji.specs.declared.unicode.CharLen.{CharLen}
 use Rattle.ji.specs.declared.unicode.Decoded.TheVariants.{Points}
 use Rattle.ji.proofs.Writing.{written-length, written-take, stored-key}
 use Rattle.ji.proofs.Points.{points-done, points-refused}
-use Rattle.ji.proofs.unicode.Checked.{bytes_good, good-same, good-not-bad}
+use Rattle.ji.proofs.unicode.Checked.{bytes-good, good-same, good-not-bad}
 use Rattle.khiin.specs.Telex.{composedOf, RestIn}
 use Rattle.khiin.proofs.syllable.compose.Reading.{fewer}
 use Rattle.khiin.proofs.converter.Laws.{key-behind}
@@ -42,7 +42,7 @@ module _ (c : After-points) where
 
   module _ (h : RestIn c.args.bytes.now n) where
     good-rest : checkPoints unicode16 (decode part) ≡ good h.rest
-    good-rest = bytes_good part h.rest h.inside (part-is ∙ h.written)
+    good-rest = bytes-good part h.rest h.inside (part-is ∙ h.written)
 
     fewest : length h.rest ≤ n
     fewest = omega (arith, fewer h.rest, ap length h.written, size)

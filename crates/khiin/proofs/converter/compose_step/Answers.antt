@@ -35,8 +35,8 @@ module _ (p : List ℕ) (n key : ℕ) (h : n + 2 < length p) where
   size : length whole ≡ n + 1
   size = length-take-le (n + 1 - 0) stored (omega (arith, length-set p n key)) ∙ sub-zero (n + 1)
 
-  front_same : take n whole ≡ take n p
-  front_same = take-take n (n + 1 - 0) stored (omega arith) ∙ take-set-le n p n key (omega arith)
+  front-same : take n whole ≡ take n p
+  front-same = take-take n (n + 1 - 0) stored (omega arith) ∙ take-set-le n p n key (omega arith)
 
   grown-same : (len : ℕ) → (key ≡ 0x20 → len ≡ n) → ((key ≡ 0x20 → ⊥) → len ≡ n + 1) → grown key (take n whole) ≡ take len whole
   grown-same len f g =
@@ -44,40 +44,40 @@ module _ (p : List ℕ) (n key : ℕ) (h : n + 2 < length p) where
       (λ e. text-yes (eqb key 0x20) _ _ e ∙ ap (λ (m : ℕ). take m whole) (sym (f (eqb-true key 0x20 e))))
       (λ e.
       text-no (eqb key 0x20) _ _ e
-      ∙ ap (λ (l : List ℕ). l ++ (key ∷ [])) front_same
+      ∙ ap (λ (l : List ℕ). l ++ (key ∷ [])) front-same
       ∙ sym (stored-key p n key (omega arith))
       ∙ sym (ap (λ (m : ℕ). take m whole) (g (eqb-false key 0x20 e)) ∙ take_all (n + 1) whole (omega (arith, size))))
 
-  part_same : (c : ℕ) → c ≤ length whole → take c whole ≡ take c stored
-  part_same c l = take-take c (n + 1 - 0) stored (omega (arith, size))
+  part-same : (c : ℕ) → c ≤ length whole → take c whole ≡ take c stored
+  part-same c l = take-take c (n + 1 - 0) stored (omega (arith, size))
 
   step-text : (k : ToneKeys) (tone : Tone) (len c : ℕ) (o : Tone) → (key ≡ 0x20 → len ≡ n) → ((key ≡ 0x20 → ⊥) → len ≡ n + 1) → c ≤ length whole
       → (grown key (take n whole) ≡ take len whole → composedOf unicode16 k key tone (take n whole) ≡ compose unicode16 (take n whole ++ (key ∷ [])) (take c whole) o No)
       → compose unicode16 (take n p ++ (key ∷ [])) (take c stored) o No ≡ composedOf unicode16 k key tone (take n p)
   step-text k tone len c o f g l e =
-      ap (λ (b : List ℕ). compose unicode16 (take n p ++ (key ∷ [])) b o No) (sym (part_same c l))
-      ∙ ap (λ (r : List ℕ). compose unicode16 (r ++ (key ∷ [])) (take c whole) o No) (sym front_same)
+      ap (λ (b : List ℕ). compose unicode16 (take n p ++ (key ∷ [])) b o No) (sym (part-same c l))
+      ∙ ap (λ (r : List ℕ). compose unicode16 (r ++ (key ∷ [])) (take c whole) o No) (sym front-same)
       ∙ sym (e (grown-same len f g))
-      ∙ ap (composedOf unicode16 k key tone) front_same
+      ∙ ap (composedOf unicode16 k key tone) front-same
 
   -- the bytes of the text and the key, and what of them the quick way takes for the body
   module _ (raw : List ℕ) (is : raw ≡ encode (take n p ++ (key ∷ []))) where
     abbrev typedText : List ℕ
     typedText = take n p ++ (key ∷ [])
 
-    typed_long : length typedText ≡ n + 1
-    typed_long = length-append (take n p) (key ∷ []) ∙ ap (λ (k : ℕ). k + 1) (length-take-le n p (omega arith))
+    typed-long : length typedText ≡ n + 1
+    typed-long = length-append (take n p) (key ∷ []) ∙ ap (λ (k : ℕ). k + 1) (length-take-le n p (omega arith))
 
     raw-long : n + 1 ≤ length raw
-    raw-long = omega (arith, ap length is, fewer typedText, typed_long)
+    raw-long = omega (arith, ap length is, fewer typedText, typed-long)
 
-    body_same : (c : ℕ) → c ≤ length whole → allAscii (take (c - 0) raw) ≡ true → take (c - 0) raw ≡ take c stored
-    body_same c l ascii =
+    body-same : (c : ℕ) → c ≤ length whole → allAscii (take (c - 0) raw) ≡ true → take (c - 0) raw ≡ take c stored
+    body-same c l ascii =
         let e : take (c - 0) raw ≡ take c (encode typedText) = ap₂ (λ (m : ℕ) (u : List ℕ). take m u) (sub-zero c) is in
         e
-        ∙ front-ascii typedText c (omega (arith, l, size, typed_long)) (subst (λ (u : List ℕ). allAscii u ≡ true) e ascii)
+        ∙ front-ascii typedText c (omega (arith, l, size, typed-long)) (subst (λ (u : List ℕ). allAscii u ≡ true) e ascii)
         ∙ ap (take c) (sym (stored-key p n key (omega arith)))
-        ∙ part_same c l
+        ∙ part-same c l
 
 pub slice_bounds-typed-end : goal.slice_bounds-typed-end
 slice_bounds-typed-end c = omega (arith, c.requires.1, length-set c.args.points.now c.args.n c.args.key)
@@ -98,7 +98,7 @@ returns-then-size-gt0 c =
     ap (λ (r : TextAnswer). textReply r c.compose_plain-size.new.out) c.answer.ensures
     ∙ (c.compose_plain-size.ensures.1 _ c.requires.2).1 c.if-size-gt0.true
     ∙ ap (λ (b : List ℕ). here (compose unicode16 (take c.args.n c.args.points.now ++ (c.args.key ∷ [])) b c.typed-body.result.tone No))
-    (body_same c.args.points.now c.args.n c.args.key c.requires.1 c.args.raw.now c.requires.2 c.typed-body.result.len c.typed-body.ensures.0 (c.compose_plain-size.ensures.0 c.if-size-gt0.true))
+    (body-same c.args.points.now c.args.n c.args.key c.requires.1 c.args.raw.now c.requires.2 c.typed-body.result.len c.typed-body.ensures.0 (c.compose_plain-size.ensures.0 c.if-size-gt0.true))
     ∙ ap here
     (step-text c.args.points.now c.args.n c.args.key c.requires.1 c.args.k c.args.tone _ _ _ c.grown_len.ensures.0 c.grown_len.ensures.1 c.typed-body.ensures.0 c.typed-body.ensures.1)
 

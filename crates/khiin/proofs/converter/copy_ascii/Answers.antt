@@ -7,7 +7,7 @@ use Rattle.ji.specs.Text.{allAscii}
 use Rattle.ji.proofs.Bools.{false-true}
 use Rattle.ji.proofs.Writing.{written-length, written-take}
 use Rattle.ji.proofs.Underway.{underway-start, underway-one, underway-end}
-use Rattle.ji.proofs.unicode.Ascii.{ascii_nil, ascii_more}
+use Rattle.ji.proofs.unicode.Ascii.{ascii-nil, ascii-more}
 use Rattle.ji.proofs.text.Laws.{drop-next}
 use native.Mathlib.Omega.{arith}
 use Rattle.khiin.proofs.converter.copy_ascii.Goals as goal
@@ -29,7 +29,7 @@ loop-i-preserved c =
     let low : get_or a.text.now i 0 ≤ 0x7F = omega (arith, c.if-x-gt127.false) in
     let next = drop-next a.text.now i h in (
       underway-one c.loop-i.invariant.0 (i + 1) (get_or a.text.now i 0) next (omega arith) (omega (arith, c.requires)),
-      λ e. c.loop-i.invariant.1 (ap allAscii next ∙ ascii_more (get_or a.text.now i 0) (drop (i + 1) a.text.now) low e),
+      λ e. c.loop-i.invariant.1 (ap allAscii next ∙ ascii-more (get_or a.text.now i 0) (drop (i + 1) a.text.now) low e),
     )
 
 pub returns : goal.returns
@@ -37,4 +37,4 @@ returns c =
     let a = c.args in
     let e : length a.text.now ≡ c.loop-i.i = omega (arith, c.loop-i.invariant.0.inside, c.loop-i-test.false) in
     let none = drop_of_length-le a.text.now {i = c.loop-i.i} c.loop-i-test.false in
-    λ _. (c.loop-i.invariant.1 (ap allAscii none ∙ ascii_nil), ap (λ (k : ℕ). take k c.loop-i.bytes) e ∙ written-take (underway-end c.loop-i.invariant.0 none))
+    λ _. (c.loop-i.invariant.1 (ap allAscii none ∙ ascii-nil), ap (λ (k : ℕ). take k c.loop-i.bytes) e ∙ written-take (underway-end c.loop-i.invariant.0 none))

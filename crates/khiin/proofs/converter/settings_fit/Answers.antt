@@ -1,7 +1,7 @@
 use mathlib.Core.Path.{◌≡◌, sym, ap, ◌∙◌}
 use mathlib.Core.Bool.{Bool, true, false, ◌&&◌}
 use borrow.Author.Tests.{not-true, not-false}
-use Rattle.ji.proofs.Bools.{and_yes, and-false}
+use Rattle.ji.proofs.Bools.{and-yes, and-false}
 use Rattle.khiin.specs.Converter.{isSetting, settingsFit}
 use Rattle.khiin.specs.declared.converter.ToneKeys.{ToneKeys}
 use Rattle.khiin.proofs.converter.settings_fit.Goals as goal
@@ -10,7 +10,7 @@ and-end : (a b : Bool) → b ≡ false → (a && b) ≡ false
 and-end a b e = ap (λ (x : Bool). a && x) e ∙ and-false a
 
 both : (a b : Bool) → a ≡ true → b ≡ true → (a && b) ≡ true
-both a b e f = and_yes a b e ∙ f
+both a b e f = and-yes a b e ∙ f
 
 -- one that is not fit, and all that are
 module _ (k : ToneKeys) where
@@ -38,9 +38,9 @@ module _ (k : ToneKeys) where
   unfolding settingsFit
   not-t8 e = sym (ap (λ (x : Bool). x && isSetting k.t9) (and-end (isSetting k.t2 && isSetting k.t3 && isSetting k.t5 && isSetting k.t6 && isSetting k.t7) (isSetting k.t8) e))
 
-  all_but : isSetting k.t2 ≡ true → isSetting k.t3 ≡ true → isSetting k.t5 ≡ true → isSetting k.t6 ≡ true → isSetting k.t7 ≡ true → isSetting k.t8 ≡ true → isSetting k.t9 ≡ settingsFit k
+  all-but : isSetting k.t2 ≡ true → isSetting k.t3 ≡ true → isSetting k.t5 ≡ true → isSetting k.t6 ≡ true → isSetting k.t7 ≡ true → isSetting k.t8 ≡ true → isSetting k.t9 ≡ settingsFit k
   unfolding settingsFit
-  all_but e2 e3 e5 e6 e7 e8 = sym (and_yes (isSetting k.t2 && isSetting k.t3 && isSetting k.t5 && isSetting k.t6 && isSetting k.t7 && isSetting k.t8) (isSetting k.t9) (both (isSetting k.t2 && isSetting k.t3 && isSetting k.t5 && isSetting k.t6 && isSetting k.t7) (isSetting k.t8) (both (isSetting k.t2 && isSetting k.t3 && isSetting k.t5 && isSetting k.t6) (isSetting k.t7) (both (isSetting k.t2 && isSetting k.t3 && isSetting k.t5) (isSetting k.t6) (both (isSetting k.t2 && isSetting k.t3) (isSetting k.t5) (both (isSetting k.t2) (isSetting k.t3) e2 e3) e5) e6) e7) e8))
+  all-but e2 e3 e5 e6 e7 e8 = sym (and-yes (isSetting k.t2 && isSetting k.t3 && isSetting k.t5 && isSetting k.t6 && isSetting k.t7 && isSetting k.t8) (isSetting k.t9) (both (isSetting k.t2 && isSetting k.t3 && isSetting k.t5 && isSetting k.t6 && isSetting k.t7) (isSetting k.t8) (both (isSetting k.t2 && isSetting k.t3 && isSetting k.t5 && isSetting k.t6) (isSetting k.t7) (both (isSetting k.t2 && isSetting k.t3 && isSetting k.t5) (isSetting k.t6) (both (isSetting k.t2 && isSetting k.t3) (isSetting k.t5) (both (isSetting k.t2) (isSetting k.t3) e2 e3) e5) e6) e7) e8))
 
 pub returns-then-not-is_setting : goal.returns-then-not-is_setting
 returns-then-not-is_setting c = not-t2 c.args.k (sym c.is_setting.ensures ∙ c.if-not-is_setting.true)
@@ -63,7 +63,7 @@ returns-then-not-is_setting-6 c = not-t8 c.args.k (sym c.is_setting-6.ensures �
 pub returns : goal.returns
 returns c =
     c.is_setting-7.ensures
-    ∙ all_but c.args.k
+    ∙ all-but c.args.k
     (sym c.is_setting.ensures ∙ c.if-not-is_setting.false)
     (sym c.is_setting-2.ensures ∙ c.if-not-is_setting-2.false)
     (sym c.is_setting-3.ensures ∙ c.if-not-is_setting-3.false)

@@ -22,10 +22,10 @@ use Rattle.ji.proofs.unicode.Checked.{Passed, text-passed}
 use Rattle.ji.proofs.lomaji.keys.Bytes.{stripped-bytes}
 use Rattle.ji.proofs.lomaji.strip.Answers.{stripped-inside, stripped-points, Stripping, strip-done, strip-not}
 use Rattle.ji.proofs.lomaji.tone_letter.Marks.{letter-stripped}
-use Rattle.khiin.specs.Telex.{editOf, composedOf, edited, step_of, RestIn}
+use Rattle.khiin.specs.Telex.{editOf, composedOf, edited, stepOf, RestIn}
 use Rattle.khiin.specs.declared.converter.Edit.{Edit}
 use Rattle.khiin.specs.declared.converter.Edit.TheVariants.{Compose}
-use Rattle.khiin.proofs.converter.Laws.{step_is, ascii-step}
+use Rattle.khiin.proofs.converter.Laws.{step-is, ascii-step}
 use native.Mathlib.Omega.{arith}
 use Rattle.khiin.proofs.converter.step_in.Goals as goal
 use Rattle.khiin.proofs.converter.step_in.Goals.{Joined-copy_ascii, then-copy_ascii, else-copy_ascii+in-Done}
@@ -38,7 +38,7 @@ module _ (k : ToneKeys) (key : ℕ) (text lent out : List ℕ) (short : length t
   abbrev Known : List ℕ → ℕ → Tone → Edit → Type 0
   Known bytes n tone edit =
       (2 * n ≤ 5 * length text) × (length bytes ≡ length lent)
-      × ((h : RestIn bytes n) × (here (edited unicode16 k edit key tone h.rest) ≡ textCall unicode16 (step_of unicode16 k key) text out))
+      × ((h : RestIn bytes n) × (here (edited unicode16 k edit key tone h.rest) ≡ textCall unicode16 (stepOf unicode16 k key) text out))
 
   -- ── an ASCII text was copied
   module _ (copied : List ℕ) (kept : length copied ≡ length lent) (ascii : allAscii text ≡ true) (same : take (length text) copied ≡ text) where
@@ -61,7 +61,7 @@ module _ (k : ToneKeys) (key : ℕ) (text lent out : List ℕ) (short : length t
             ascii-in,
             ap (λ (x : Tone). here (composedOf unicode16 k key x text)) (is ∙ ap unmarkedTone front-is)
                 ∙ ap here (sym (ascii-step k key text ascii))
-                ∙ text-good unicode16 (step_of unicode16 k key) text out text (check-within unicode16 text short ∙ ascii-good text ascii),
+                ∙ text-good unicode16 (stepOf unicode16 k key) text out text (check-within unicode16 text short ∙ ascii-good text ascii),
           ),
         )
 
@@ -87,8 +87,8 @@ module _ (k : ToneKeys) (key : ℕ) (text lent out : List ℕ) (short : length t
       bytes-few : 2 * r.len.0 ≤ 5 * length text
       bytes-few = omega (arith, stripping.written.size, stripped-bytes u, ap length whole.written)
 
-      rest_in : RestIn bytes r.len.0
-      rest_in =
+      rest-in : RestIn bytes r.len.0
+      rest-in =
           record {
             rest = rest;
             inside = stripped-inside u whole.inside;
@@ -100,17 +100,17 @@ module _ (k : ToneKeys) (key : ℕ) (text lent out : List ℕ) (short : length t
         edit-is : edit ≡ editOf k key r.tone u
         edit-is = told u (sym (check-within unicode16 text short) ∙ stripping.good)
 
-        finished : here (edited unicode16 k edit key r.tone rest) ≡ textCall unicode16 (step_of unicode16 k key) text out
-        unfolding step_of
+        finished : here (edited unicode16 k edit key r.tone rest) ≡ textCall unicode16 (stepOf unicode16 k key) text out
+        unfolding stepOf
         finished =
             ap (λ (e : Edit). here (edited unicode16 k e key r.tone rest)) edit-is
             ∙ ap (λ (o : Tone). here (edited unicode16 k (editOf k key o u) key o rest)) stripping.tone
-            ∙ ap here (sym (step_is unicode16 k key u (strip unicode16 u).tone rest (letter-stripped unicode16 u)))
-            ∙ text-good unicode16 (step_of unicode16 k key) text out u stripping.good
+            ∙ ap here (sym (step-is unicode16 k key u (strip unicode16 u).tone rest (letter-stripped unicode16 u)))
+            ∙ text-good unicode16 (stepOf unicode16 k key) text out u stripping.good
 
         stripped-known : Known bytes r.len.0 r.tone edit
-        unfolding rest_in
-        stripped-known = (bytes-few, written-length stripping.written ∙ kept, (rest_in, finished))
+        unfolding rest-in
+        stripped-known = (bytes-few, written-length stripping.written ∙ kept, (rest-in, finished))
 
 -- either way
 known : (c : Joined-copy_ascii) → Known c.args.k c.args.key c.args.text.now c.args.bytes.now c.args.out.now c.requires.1 c.if-copy_ascii.bytes c.if-copy_ascii.n c.if-copy_ascii.tone c.if-copy_ascii.edit
@@ -139,7 +139,7 @@ slice_bounds-unmarked_tone-end c =
 pub returns-in-Refused : goal.returns-in-Refused
 returns-in-Refused c =
     let room : 5 * length c.args.text.now ≤ 2 * length c.copy_ascii.new.bytes = let p = c.requires.2 in omega (arith, p, c.copy_ascii.auto.bytes) in
-    text-refused unicode16 (step_of unicode16 c.args.k c.args.key) c.args.text.now c.args.out.now c.in-Refused.why
+    text-refused unicode16 (stepOf unicode16 c.args.k c.args.key) c.args.text.now c.args.out.now c.in-Refused.why
     (strip-not c.args.text.now c.copy_ascii.new.bytes c.strip_tone_diacritic.new.out c.in-Refused.why room
     (ap (λ (x : Strip). stripReply x c.strip_tone_diacritic.new.out) (sym c.in-Refused.is)
     ∙ called c.args.k c.args.key c.args.text.now c.args.bytes.now c.args.out.now c.requires.1 c.copy_ascii.new.bytes c.strip_tone_diacritic.new.out c.strip_tone_diacritic.result c.strip_tone_diacritic.ensures))

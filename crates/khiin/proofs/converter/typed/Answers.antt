@@ -5,7 +5,7 @@ use Prim.Native.Nat.{ℕ, ◌-◌}
 use native.Mathlib.Nat.{sub-zero}
 use lib.ListN.{take}
 use Rattle.ji.specs.Unicode.{unicode16}
-use Rattle.ji.specs.Lomaji.ToneLetter.{toneLetter, is_some}
+use Rattle.ji.specs.Lomaji.ToneLetter.{toneLetter, isSome}
 use Rattle.ji.specs.declared.tone.Tone.{Tone}
 use Rattle.khiin.specs.Converter.{sharedOr, isFirst}
 use Rattle.khiin.specs.declared.converter.ToneKeys.{ToneKeys}
@@ -13,8 +13,8 @@ use Rattle.khiin.proofs.converter.Laws.{composed-toned, composed-joined, compose
 use Rattle.khiin.proofs.converter.typed.Goals as goal
 
 -- what was said of a part `[0..n]`
-takes : (w : List ℕ) (n : ℕ) (tone : Tone) {r b : Bool} → r ≡ (not (isFirst tone) || is_some (toneLetter (take (n - 0) w))) → r ≡ b → (not (isFirst tone) || is_some (toneLetter (take n w))) ≡ b
-takes w n tone e f = ap (λ (m : ℕ). not (isFirst tone) || is_some (toneLetter (take m w))) (sym (sub-zero n)) ∙ sym e ∙ f
+takes : (w : List ℕ) (n : ℕ) (tone : Tone) {r b : Bool} → r ≡ (not (isFirst tone) || isSome (toneLetter (take (n - 0) w))) → r ≡ b → (not (isFirst tone) || isSome (toneLetter (take n w))) ≡ b
+takes w n tone e f = ap (λ (m : ℕ). not (isFirst tone) || isSome (toneLetter (take m w))) (sym (sub-zero n)) ∙ sym e ∙ f
 
 spoken : (w : List ℕ) (n : ℕ) (k : ToneKeys) (key : ℕ) (tone : Tone) {o : Tone} → o ≡ sharedOr k key tone (take (n - 0) w) → o ≡ sharedOr k key tone (take n w)
 spoken w n k key tone e = e ∙ ap (λ (m : ℕ). sharedOr k key tone (take m w)) (sub-zero n)

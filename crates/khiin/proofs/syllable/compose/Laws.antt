@@ -19,7 +19,7 @@ use Rattle.ji.specs.Lomaji.Keys.{respell}
 use Rattle.ji.specs.declared.tone.Tone.{Tone}
 use Rattle.ji.specs.declared.lomaji.khin.Khin.{Khin}
 use Rattle.ji.proofs.Cases.{none-not-some}
-use Rattle.ji.proofs.Bools.{either, false-true, and_yes, and_no, and-true, and-false, and_left, and_right, or_yes, or_no, text-yes, text-no}
+use Rattle.ji.proofs.Bools.{either, false-true, and-yes, and-no, and-true, and-false, and-left, and-right, or-yes, or-no, text-yes, text-no}
 use Rattle.ji.proofs.Writing.{written-length, written-take, written-drop, stores-2}
 use Rattle.ji.proofs.Underway.{Underway, underway-start, underway-one, underway-run, underway-end}
 use Rattle.ji.proofs.text.Laws.{drop-next, begins-short, begins-split, replace-nil, replace-hit, replace-miss, replace-point, replace-other, replace-growth, replace-induction}
@@ -31,12 +31,12 @@ getD-start s i = let z : i + 0 ≡ i = omega arith in get_or-drop i s 0 0 ∙ ap
 
 -- ── the front of a buffer
 module _ {buffer : List ℕ} {n : ℕ} {s : List ℕ} (h : Front buffer n s) where
-  pub front_fits : n ≤ length buffer
-  front_fits = omega (arith, length-take n buffer, ap length h.is, h.size)
+  pub front-fits : n ≤ length buffer
+  front-fits = omega (arith, length-take n buffer, ap length h.is, h.size)
 
   -- it is the front of a longer buffer too
   pub front-longer : (rest : List ℕ) → Front (buffer ++ rest) n s
-  front-longer rest = record { is = take-append-le n buffer rest front_fits ∙ h.is; size = h.size }
+  front-longer rest = record { is = take-append-le n buffer rest front-fits ∙ h.is; size = h.size }
 
   -- as a part `[0..n]` has it
   pub front-part : take (n - 0) buffer ≡ s
@@ -53,8 +53,8 @@ pub record Walk (F : List ℕ → List ℕ) (s₀ s : List ℕ) (i n : ℕ) : Ty
   pub behind : n ≤ i
   pub under : Underway F s₀ s₀ s i n
 
-pub walk_start : (F : List ℕ → List ℕ) (s : List ℕ) → Walk F s s 0 0
-walk_start F s = record { behind = omega arith; under = underway-start F s s }
+pub walk-start : (F : List ℕ → List ℕ) (s : List ℕ) → Walk F s s 0 0
+walk-start F s = record { behind = omega arith; under = underway-start F s s }
 
 module _ {F : List ℕ → List ℕ} {s₀ s : List ℕ} {i n : ℕ} (h : Walk F s₀ s i n) where
   pub walk-length : length s ≡ length s₀
@@ -66,8 +66,8 @@ module _ {F : List ℕ → List ℕ} {s₀ s : List ℕ} {i n : ℕ} (h : Walk F
       let k : n + (i - n) ≡ i = omega (arith, h.behind) in
       rw (← k, ← drop-drop (i - n) n s, ← drop-drop (i - n) n s₀) (ap (drop (i - n)) (written-drop h.under.written))
 
-  pub walk_here : get_or s i 0 ≡ get_or s₀ i 0
-  walk_here = sym (getD-start s i) ∙ ap (λ (t : List ℕ). get_or t 0 0) walk-unread ∙ getD-start s₀ i
+  pub walk-here : get_or s i 0 ≡ get_or s₀ i 0
+  walk-here = sym (getD-start s i) ∙ ap (λ (t : List ℕ). get_or t 0 0) walk-unread ∙ getD-start s₀ i
 
   pub walk-one : (i' x : ℕ) → F (drop i s₀) ≡ x ∷ F (drop i' s₀) → i < i' → i' ≤ length s → Walk F s₀ (set s n x) i' (n + 1)
   walk-one i' x piece more inside =
@@ -89,8 +89,8 @@ module _ {F : List ℕ → List ℕ} {s₀ s : List ℕ} {i n : ℕ} (h : Walk F
             };
       }
 
-  pub walk_end : F (drop i s₀) ≡ [] → Written s₀ s n (F s₀)
-  walk_end e = underway-end h.under e
+  pub walk-end : F (drop i s₀) ≡ [] → Written s₀ s n (F s₀)
+  walk-end e = underway-end h.under e
 
 -- two elements more
 pub underway-two : {F : List ℕ → List ℕ} {s before after : List ℕ} {i j : ℕ} → Underway F s before after i j → (i' x y : ℕ) → F (drop i s) ≡ x ∷ y ∷ F (drop i' s) → i' ≤ length s → j + 2 ≤ length before → Underway F s before (set (set after j x) (j + 1) y) i' (j + 1 + 1)
@@ -103,14 +103,14 @@ not-true true e f = false-true e
 not-true false e f = false-true f
 
 -- ── what the code reads of a text
-pair_read : (s : List ℕ) → isPair s ≡ (listed (points "oOeE") (get_or s 0 0) && listed (points "oOuU") (get_or s 1 0))
+pair-read : (s : List ℕ) → isPair s ≡ (listed (points "oOeE") (get_or s 0 0) && listed (points "oOuU") (get_or s 1 0))
 unfolding isPair listed
-pair_read [] = refl
-pair_read (x ∷ s) = refl
+pair-read [] = refl
+pair-read (x ∷ s) = refl
 
 pub pair-at : (s : List ℕ) (i : ℕ) → isPair (drop i s) ≡ (listed (points "oOeE") (get_or s i 0) && listed (points "oOuU") (get_or s (i + 1) 0))
 pair-at s i =
-    pair_read (drop i s)
+    pair-read (drop i s)
     ∙ ap₂ (λ (x y : ℕ). listed (points "oOeE") x && listed (points "oOuU") y) (getD-start s i) (get_or-drop i s 1 0)
 
 pub nasal-short : (s : List ℕ) → length s < 3 → endsNasal s ≡ false
@@ -150,7 +150,7 @@ module _ (s : List ℕ) (h : 3 ≤ length s) where
   nasal-not-second n =
       nasal-read
       ∙ ap (λ (b : Bool). ending b (eqb (letter 1) (point "n"))) (ne_eqb _ _ n)
-      ∙ and_no _ _ (and-false (listed (marked "aeiouptkhm" 0x0358) (letter 3)))
+      ∙ and-no _ _ (and-false (listed (marked "aeiouptkhm" 0x0358) (letter 3)))
 
   pub nasal-by-letter : letter 2 ≡ point "n" → letter 1 ≡ point "n" → endsNasal s ≡ listed (marked "aeiouptkhm" 0x0358) (letter 3)
   nasal-by-letter e f = nasal-read ∙ ap₂ ending (eq-eqb _ _ e) (eq-eqb _ _ f) ∙ and-true _ ∙ and-true (listed (marked "aeiouptkhm" 0x0358) (letter 3))
@@ -163,8 +163,8 @@ dot-zeros (x ∷ []) = refl
 dot-zeros (x ∷ y ∷ []) = refl
 dot-zeros (x ∷ y ∷ (z ∷ s)) = refl
 
-pub dot_at : (s : List ℕ) (i : ℕ) → takesDot (drop i s) ≡ takesDot (get_or s i 0 ∷ get_or s (i + 1) 0 ∷ get_or s (i + 2) 0 ∷ [])
-dot_at s i =
+pub dot-at : (s : List ℕ) (i : ℕ) → takesDot (drop i s) ≡ takesDot (get_or s i 0 ∷ get_or s (i + 1) 0 ∷ get_or s (i + 2) 0 ∷ [])
+dot-at s i =
     dot-zeros (drop i s)
     ∙ ap (λ (x : ℕ). takesDot (x ∷ get_or (drop i s) 1 0 ∷ get_or (drop i s) 2 0 ∷ [])) (getD-start s i)
     ∙ ap₂ (λ (y z : ℕ). takesDot (get_or s i 0 ∷ y ∷ z ∷ [])) (get_or-drop i s 1 0) (get_or-drop i s 2 0)
@@ -207,14 +207,14 @@ module _ (a : ℕ) (q : List ℕ) (letter : isDot a ≡ true) (clear : free q �
 
   dot-other : (x : ℕ) (s : List ℕ) → (x ≡ a → ⊥) → dotted alone (x ∷ s) ≡ x ∷ dotted alone s
   unfolding dotted begins
-  dot-other x s n = ap (λ (l : List ℕ). x ∷ l) (text-no _ _ _ (or_no _ _ (and_no _ _ (ne_eqb x a n))))
+  dot-other x s n = ap (λ (l : List ℕ). x ∷ l) (text-no _ _ _ (or-no _ _ (and-no _ _ (ne_eqb x a n))))
 
   dot-free : (u s : List ℕ) → free u ≡ true → dotted alone (u ++ s) ≡ u ++ dotted alone s
   unfolding free
   dot-free [] s f = refl
   dot-free (c ∷ u) s f =
-      dot-other c (u ++ s) (apart c a (and_left (not (isDot c)) (free u) f) letter)
-      ∙ ap (λ (l : List ℕ). c ∷ l) (dot-free u s (and_right (not (isDot c)) (free u) f))
+      dot-other c (u ++ s) (apart c a (and-left (not (isDot c)) (free u) f) letter)
+      ∙ ap (λ (l : List ℕ). c ∷ l) (dot-free u s (and-right (not (isDot c)) (free u) f))
 
   begins-dotted : (u s : List ℕ) → free u ≡ true → begins u (dotted alone s) ≡ begins u s
   unfolding free begins dotted
@@ -224,10 +224,10 @@ module _ (a : ℕ) (q : List ℕ) (letter : isDot a ≡ true) (clear : free q �
       either (eqb y c)
       (λ e.
       let same = eqb-true y c e in
-      let n = apart c a (and_left (not (isDot c)) (free u) f) letter in
+      let n = apart c a (and-left (not (isDot c)) (free u) f) letter in
       ap (begins (c ∷ u)) (dot-other y s (λ z. n (sym same ∙ z)))
-      ∙ ap (λ (b : Bool). eqb y c && b) (begins-dotted u s (and_right (not (isDot c)) (free u) f)))
-      (λ e. and_no _ _ e ∙ sym (and_no (eqb y c) (begins u s) e))
+      ∙ ap (λ (b : Bool). eqb y c && b) (begins-dotted u s (and-right (not (isDot c)) (free u) f)))
+      (λ e. and-no _ _ e ∙ sym (and-no (eqb y c) (begins u s) e))
 
   one-rule : (s : List ℕ) → replaceAll (a ∷ q) (a ∷ 0x0358 ∷ q) s ≡ dotted alone s
   unfolding dotted begins
@@ -235,65 +235,65 @@ module _ (a : ℕ) (q : List ℕ) (letter : isDot a ≡ true) (clear : free q �
       replace-induction (a ∷ q) (omega arith) (λ (s : List ℕ). replaceAll (a ∷ q) (a ∷ 0x0358 ∷ q) s ≡ dotted alone s)
       (replace-nil (a ∷ q) (a ∷ 0x0358 ∷ q))
       (λ x s e ih.
-      let same = eqb-true x a (and_left (eqb x a) (begins q s) e) in
-      let rest = begins-split q s (and_right (eqb x a) (begins q s) e) in
+      let same = eqb-true x a (and-left (eqb x a) (begins q s) e) in
+      let rest = begins-split q s (and-right (eqb x a) (begins q s) e) in
       replace-hit (a ∷ q) (a ∷ 0x0358 ∷ q) x s (omega arith) e
       ∙ ap (λ (l : List ℕ). a ∷ 0x0358 ∷ (q ++ l)) ih
       ∙ ap (λ (l : List ℕ). a ∷ 0x0358 ∷ l) (sym (dot-free q (drop (length q) s) clear) ∙ ap (dotted alone) (sym rest))
       ∙ ap (λ (c : ℕ). c ∷ 0x0358 ∷ dotted alone s) (sym same)
-      ∙ ap (λ (l : List ℕ). x ∷ l) (sym (text-yes _ _ _ (or_yes _ _ e))))
+      ∙ ap (λ (l : List ℕ). x ∷ l) (sym (text-yes _ _ _ (or-yes _ _ e))))
       (λ x s e ih.
       replace-miss (a ∷ q) (a ∷ 0x0358 ∷ q) x s e
-      ∙ ap (λ (l : List ℕ). x ∷ l) (ih ∙ sym (text-no _ _ _ (or_no _ _ e))))
+      ∙ ap (λ (l : List ℕ). x ∷ l) (ih ∙ sym (text-no _ _ _ (or-no _ _ e))))
 
 -- rules after one another: none begins with U+0358, has it behind its first code point, or sees whether an earlier one put it there
 module _ (d : ℕ × List ℕ) (ds : List (ℕ × List ℕ)) (h : allRules (d ∷ ds) ≡ true) where
   rule-first : isRule d ≡ true
   unfolding allRules
-  rule-first = and_left (isRule d) (allRules ds) h
+  rule-first = and-left (isRule d) (allRules ds) h
 
   rules-rest : allRules ds ≡ true
   unfolding allRules
-  rules-rest = and_right (isRule d) (allRules ds) h
+  rules-rest = and-right (isRule d) (allRules ds) h
 
   rule-letter : isDot d.0 ≡ true
   unfolding isRule
   rule-letter =
-      and_left (isDot d.0) (not (eqb d.0 0x0358)) (and_left (isDot d.0 && not (eqb d.0 0x0358)) (ltb 0 (length d.1) && free d.1) rule-first)
+      and-left (isDot d.0) (not (eqb d.0 0x0358)) (and-left (isDot d.0 && not (eqb d.0 0x0358)) (ltb 0 (length d.1) && free d.1) rule-first)
 
   rule-other : eqb d.0 0x0358 ≡ true → ⊥
   unfolding isRule
   rule-other e =
       not-true (eqb d.0 0x0358)
-      (and_right (isDot d.0) (not (eqb d.0 0x0358)) (and_left (isDot d.0 && not (eqb d.0 0x0358)) (ltb 0 (length d.1) && free d.1) rule-first))
+      (and-right (isDot d.0) (not (eqb d.0 0x0358)) (and-left (isDot d.0 && not (eqb d.0 0x0358)) (ltb 0 (length d.1) && free d.1) rule-first))
       e
 
   rule-tail : (ltb 0 (length d.1) && free d.1) ≡ true
   unfolding isRule
-  rule-tail = and_right (isDot d.0 && not (eqb d.0 0x0358)) (ltb 0 (length d.1) && free d.1) rule-first
+  rule-tail = and-right (isDot d.0 && not (eqb d.0 0x0358)) (ltb 0 (length d.1) && free d.1) rule-first
 
   rule-free : free d.1 ≡ true
-  rule-free = and_right (ltb 0 (length d.1)) (free d.1) rule-tail
+  rule-free = and-right (ltb 0 (length d.1)) (free d.1) rule-tail
 
 free-mark : (q s : List ℕ) → (ltb 0 (length q) && free q) ≡ true → begins q (0x0358 ∷ s) ≡ false
 unfolding free begins listed
 free-mark [] s h = absurd (false-true h)
 free-mark (c ∷ q) s h =
-    let clear = and_left (not (isDot c)) (free q) (and_right (ltb 0 (suc (length q))) (not (isDot c) && free q) h) in
-    and_no _ _ (ne_eqb 0x0358 c (λ e. apart c 0x0358 clear refl (sym e)))
+    let clear = and-left (not (isDot c)) (free q) (and-right (ltb 0 (suc (length q))) (not (isDot c) && free q) h) in
+    and-no _ _ (ne_eqb 0x0358 c (λ e. apart c 0x0358 clear refl (sym e)))
 
 none-at-mark : (ds : List (ℕ × List ℕ)) → allRules ds ≡ true → (s : List ℕ) → beginsAny (rulesOf ds) (0x0358 ∷ s) ≡ false
 unfolding begins
 none-at-mark [] h s = refl
 none-at-mark (d ∷ ds) h s =
-    or_no _ _ (and_no _ _ (ne_eqb 0x0358 d.0 (λ e. rule-other d ds h (eq-eqb d.0 0x0358 (sym e)))))
+    or-no _ _ (and-no _ _ (ne_eqb 0x0358 d.0 (λ e. rule-other d ds h (eq-eqb d.0 0x0358 (sym e)))))
     ∙ none-at-mark ds (rules-rest d ds h) s
 
 none-before-mark : (ds : List (ℕ × List ℕ)) → allRules ds ≡ true → (x : ℕ) (s : List ℕ) → beginsAny (rulesOf ds) (x ∷ 0x0358 ∷ s) ≡ false
 unfolding begins
 none-before-mark [] h x s = refl
 none-before-mark (d ∷ ds) h x s =
-    or_no _ _ (ap (λ (b : Bool). eqb x d.0 && b) (free-mark d.1 s (rule-tail d ds h)) ∙ and-false (eqb x d.0))
+    or-no _ _ (ap (λ (b : Bool). eqb x d.0 && b) (free-mark d.1 s (rule-tail d ds h)) ∙ and-false (eqb x d.0))
     ∙ none-before-mark ds (rules-rest d ds h) x s
 
 module _ (a : ℕ) (q : List ℕ) (letter : isDot a ≡ true) (clear : free q ≡ true) where
@@ -312,15 +312,15 @@ module _ (a : ℕ) (q : List ℕ) (letter : isDot a ≡ true) (clear : free q �
         let done : List ℕ = dotted (rule ∷ []) s in
         either (begins (a ∷ q) (x ∷ s))
         (λ e.
-        ap (λ (l : List ℕ). dotted (rulesOf ds) (x ∷ l)) (text-yes _ (0x0358 ∷ done) done (or_yes _ false e))
+        ap (λ (l : List ℕ). dotted (rulesOf ds) (x ∷ l)) (text-yes _ (0x0358 ∷ done) done (or-yes _ false e))
         ∙ ap (λ (l : List ℕ). x ∷ l)
         (text-no _ _ _ (none-before-mark ds h x done)
         ∙ ap (λ (l : List ℕ). 0x0358 ∷ l) (text-no _ _ _ (none-at-mark ds h done) ∙ more-rules s)
-        ∙ sym (text-yes _ _ _ (or_yes _ (beginsAny (rulesOf ds) (x ∷ s)) e))))
+        ∙ sym (text-yes _ _ _ (or-yes _ (beginsAny (rulesOf ds) (x ∷ s)) e))))
         (λ e.
-        ap (λ (l : List ℕ). dotted (rulesOf ds) (x ∷ l)) (text-no _ (0x0358 ∷ done) done (or_no _ false e))
+        ap (λ (l : List ℕ). dotted (rulesOf ds) (x ∷ l)) (text-no _ (0x0358 ∷ done) done (or-no _ false e))
         ∙ ap (λ (l : List ℕ). x ∷ l)
-        (ap₂ (λ (b : Bool) (l : List ℕ). pickText b (0x0358 ∷ l) l) (any-dotted ds h x s ∙ sym (or_no _ (beginsAny (rulesOf ds) (x ∷ s)) e)) (more-rules s)))
+        (ap₂ (λ (b : Bool) (l : List ℕ). pickText b (0x0358 ∷ l) l) (any-dotted ds h x s ∙ sym (or-no _ (beginsAny (rulesOf ds) (x ∷ s)) e)) (more-rules s)))
 
 dotted-none : (s : List ℕ) → s ≡ dotted [] s
 unfolding dotted
@@ -360,15 +360,6 @@ pub dotted-end : (s : List ℕ) (i : ℕ) → length s ≤ i → dotted oRules (
 unfolding dotted
 dotted-end s i h = ap (dotted oRules) (drop_of_length-le s h)
 
-pub dotted-length : (rules : List (List ℕ × List ℕ)) (s : List ℕ) → length (dotted rules s) ≤ 2 * length s
-unfolding dotted
-dotted-length rules [] = omega arith
-dotted-length rules (x ∷ s) =
-    let most = dotted-length rules s in
-    either (beginsAny rules (x ∷ s))
-    (λ e. rw (text-yes (beginsAny rules (x ∷ s)) (0x0358 ∷ dotted rules s) (dotted rules s) e) (omega arith))
-    (λ e. rw (text-no (beginsAny rules (x ∷ s)) (0x0358 ∷ dotted rules s) (dotted rules s) e) (omega arith))
-
 -- ── the move to the end
 neither : (a b : Bool) → (a || b) ≡ false → (a ≡ false) × (b ≡ false)
 neither true b e = absurd (false-true (sym e))
@@ -378,20 +369,20 @@ module _ (c : ℕ) where
   out-most : (s : List ℕ) → length (replaceAll (c ∷ []) [] s) ≤ length s
   out-most s = omega (arith, replace-growth (c ∷ []) [] (omega arith) 1 (omega arith) (omega arith) s)
 
-  out_listed : (s : List ℕ) → listed s c ≡ true → length (replaceAll (c ∷ []) [] s) < length s
+  out-listed : (s : List ℕ) → listed s c ≡ true → length (replaceAll (c ∷ []) [] s) < length s
   unfolding listed
-  out_listed [] e = absurd (false-true e)
-  out_listed (x ∷ s) e =
+  out-listed [] e = absurd (false-true e)
+  out-listed (x ∷ s) e =
       either (eqb x c)
       (λ y. rw (replace-point c [] x s (eqb-true x c y)) (omega (arith, out-most s)))
-      (λ n. rw (replace-other c [] x s (eqb-false x c n)) (suc-le-suc (out_listed s (sym (or_no _ _ n) ∙ e))))
+      (λ n. rw (replace-other c [] x s (eqb-false x c n)) (suc-le-suc (out-listed s (sym (or-no _ _ n) ∙ e))))
 
-  out_none : (s : List ℕ) → listed s c ≡ false → replaceAll (c ∷ []) [] s ≡ s
+  out-none : (s : List ℕ) → listed s c ≡ false → replaceAll (c ∷ []) [] s ≡ s
   unfolding listed
-  out_none [] e = replace-nil (c ∷ []) []
-  out_none (x ∷ s) e =
+  out-none [] e = replace-nil (c ∷ []) []
+  out-none (x ∷ s) e =
       let z = neither (eqb x c) (listed s c) e in
-      replace-other c [] x s (eqb-false x c z.0) ∙ ap (λ (l : List ℕ). x ∷ l) (out_none s z.1)
+      replace-other c [] x s (eqb-false x c z.0) ∙ ap (λ (l : List ℕ). x ∷ l) (out-none s z.1)
 
   module _ (s : List ℕ) where
     pub moved-end : get_or s (length s - 1) 0 ≡ c → moved c s ≡ s
@@ -401,27 +392,27 @@ module _ (c : ℕ) where
         (λ l. text-yes (listed s c) _ _ l ∙ text-yes (eqb (last s) c) _ _ (eq-eqb _ _ e))
         (λ l. text-no (listed s c) _ _ l)
 
-    pub moved_none : length s ≤ length (replaceAll (c ∷ []) [] s) → (moved c s ≡ s) × (replaceAll (c ∷ []) [] s ≡ s)
+    pub moved-none : length s ≤ length (replaceAll (c ∷ []) [] s) → (moved c s ≡ s) × (replaceAll (c ∷ []) [] s ≡ s)
     unfolding moved
-    moved_none h =
+    moved-none h =
         either (listed s c)
-        (λ l. let z : ⊥ = omega (arith, out_listed s l) in absurd z)
-        (λ l. (text-no (listed s c) _ _ l, out_none s l))
+        (λ l. let z : ⊥ = omega (arith, out-listed s l) in absurd z)
+        (λ l. (text-no (listed s c) _ _ l, out-none s l))
 
     pub moved-some : (get_or s (length s - 1) 0 ≡ c → ⊥) → length (replaceAll (c ∷ []) [] s) < length s → moved c s ≡ replaceAll (c ∷ []) [] s ++ (c ∷ [])
     unfolding moved last
     moved-some n h =
         either (listed s c)
         (λ l. text-yes (listed s c) _ _ l ∙ text-no (eqb (last s) c) _ _ (ne_eqb _ _ n))
-        (λ l. let z : ⊥ = omega (arith, ap length (out_none s l)) in absurd z)
+        (λ l. let z : ⊥ = omega (arith, ap length (out-none s l)) in absurd z)
 
 -- ── a mark put into a text in place
 -- what follows place i has moved up by one, over the last
 abbrev pub shifted : List ℕ → ℕ → List ℕ
 shifted s i = take i s ++ (get_or s i 0 ∷ take (length s - 1 - i) (drop i s))
 
-pub shifted_start : (s : List ℕ) → 0 < length s → s ≡ shifted s (length s - 1)
-shifted_start s h =
+pub shifted-start : (s : List ℕ) → 0 < length s → s ≡ shifted s (length s - 1)
+shifted-start s h =
     let m : ℕ = length s - 1 in
     let end : length s ≤ suc m = omega arith in
     let nothing : m - m ≡ 0 = omega arith in
@@ -435,8 +426,8 @@ module _ (s₀ s : List ℕ) (i : ℕ) where
       ap (λ (l : List ℕ). set l i x) e
       ∙ set_at (take i s₀) (get_or s₀ i 0) (take (length s₀ - 1 - i) (drop i s₀)) x i (length-take-le i s₀ (omega arith))
 
-  pub shifted_step : 0 < i → i < length s₀ → s ≡ shifted s₀ i → set s i (get_or s (i - 1) 0) ≡ shifted s₀ (i - 1)
-  shifted_step pos h e =
+  pub shifted-step : 0 < i → i < length s₀ → s ≡ shifted s₀ i → set s i (get_or s (i - 1) 0) ≡ shifted s₀ (i - 1)
+  shifted-step pos h e =
       let j : ℕ = i - 1 in
       let next : i ≡ suc j = omega arith in
       let x : ℕ = get_or s₀ j 0 in
@@ -456,8 +447,8 @@ module _ (s₀ s : List ℕ) (i : ℕ) where
           ∙ get_or-append (take i s₀) _ 0 j (rw (length-take-le i s₀ (omega arith)) (omega arith))
           ∙ get_or-take i s₀ j 0 (omega arith)
 
-pub shifted_end : (s₀ s : List ℕ) (k x : ℕ) → k < length s₀ → s ≡ shifted s₀ k → set s k x ≡ inserted k x s₀
-shifted_end s₀ s k x h e = stored s₀ s k x h e
+pub shifted-end : (s₀ s : List ℕ) (k x : ℕ) → k < length s₀ → s ≡ shifted s₀ k → set s k x ≡ inserted k x s₀
+shifted-end s₀ s k x h e = stored s₀ s k x h e
 
 -- the same of the first n + 1 places: the mark stands in the text of the first n
 module _ (s : List ℕ) (n k x : ℕ) (h : n < length s) (l : k ≤ n) where

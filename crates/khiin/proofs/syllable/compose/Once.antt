@@ -13,12 +13,12 @@ use lib.Seq.{set-get_or, get_or-set_same, get_or-set_other, get_or-take, get_or-
 use Rattle.ji.specs.Unicode.{listed, pickText}
 use Rattle.ji.specs.Text.{points, marked, point, within, lower, begins, replaceAll, last}
 use Rattle.ji.specs.Lomaji.Keys.{respell}
-use Rattle.ji.proofs.Bools.{either, false-true, and_yes, and_no, and-false, and_left, and_right, or_no, number-yes, number-no, text-yes, text-no}
+use Rattle.ji.proofs.Bools.{either, false-true, and-yes, and-no, and-false, and-left, and-right, or-no, number-yes, number-no, text-yes, text-no}
 use Rattle.ji.proofs.text.Laws.{drop-next, begins-length, replace-hit, replace-miss, replace-none}
 use Rattle.ji.proofs.unicode.Bytes.{last-skip}
 use Rattle.khiin.specs.Syllable.{vowelRules, nasalRules, oRules, endsNasal, moved}
 use Rattle.khiin.specs.Compose.{Front, isPair, isNasalPair, takesDot, NoPairIn, NoNasalBefore, NoSignBefore, DotAt}
-use Rattle.khiin.proofs.syllable.compose.Laws.{pair-at, nasal-short, nasal-read, dotted, o-dotted, dot_at}
+use Rattle.khiin.proofs.syllable.compose.Laws.{pair-at, nasal-short, nasal-read, dotted, o-dotted, dot-at}
 
 -- ── a pattern that occurs once
 module _ (p r : List ℕ) (some : 0 < length p) where
@@ -69,7 +69,7 @@ pub record VowelRule (r : List ℕ × List ℕ) : Type 0 where
   pub result : r.1 ≡ c ∷ mark ∷ []
   pub first : First a ≡ true
   pub second : Second b ≡ true
-  pub not_first : First mark ≡ false
+  pub not-first : First mark ≡ false
   pub not-second : Second mark ≡ false
 
 abbrev Rules : List (List ℕ × List ℕ) → Type 0
@@ -82,9 +82,9 @@ unfolding begins isPair
 begins-pair a b f g [] e = absurd (false-true e)
 begins-pair a b f g (x ∷ []) e = absurd (false-true (sym (and-false (eqb x a)) ∙ e))
 begins-pair a b f g (x ∷ (y ∷ s)) e =
-    let x-is = eqb-true x a (and_left (eqb x a) (eqb y b && true) e) in
-    let y-is = eqb-true y b (and_left (eqb y b) true (and_right (eqb x a) (eqb y b && true) e)) in
-    and_yes _ _ (ap First x-is ∙ f) ∙ ap Second y-is ∙ g
+    let x-is = eqb-true x a (and-left (eqb x a) (eqb y b && true) e) in
+    let y-is = eqb-true y b (and-left (eqb y b) true (and-right (eqb x a) (eqb y b && true) e)) in
+    and-yes _ _ (ap First x-is ∙ f) ∙ ap Second y-is ∙ g
 
 no-pair-begins : (r : List ℕ × List ℕ) → VowelRule r → (s : List ℕ) → isPair s ≡ false → begins r.0 s ≡ false
 no-pair-begins r v s e =
@@ -113,14 +113,14 @@ module _ (s : List ℕ) (i : ℕ) (h : i + 1 < length s) (before : NoPairIn 0 i 
   abbrev put : List ℕ → List ℕ
   put two = take i s ++ (two ++ drop (i + 2) s)
 
-  no_other : (k : ℕ) → (k ≡ i → ⊥) → isPair (drop k s) ≡ false
+  no-other : (k : ℕ) → (k ≡ i → ⊥) → isPair (drop k s) ≡ false
   unfolding isPair
-  no_other k n = by_place (dec_le i k) (dec_le (length s) k)
+  no-other k n = by-place (dec_le i k) (dec_le (length s) k)
     where
-      by_place : Dec (i ≤ k) → Dec (length s ≤ k) → isPair (drop k s) ≡ false
-      by_place (no l) q = before k (omega arith) (omega arith)
-      by_place (yes l) (no m) = after k (omega arith) (omega arith)
-      by_place (yes l) (yes m) = ap isPair (drop_of_length-le s m)
+      by-place : Dec (i ≤ k) → Dec (length s ≤ k) → isPair (drop k s) ≡ false
+      by-place (no l) q = before k (omega arith) (omega arith)
+      by-place (yes l) (no m) = after k (omega arith) (omega arith)
+      by-place (yes l) (yes m) = ap isPair (drop_of_length-le s m)
 
   here : drop i s ≡ f ∷ g ∷ drop (i + 2) s
   here =
@@ -145,21 +145,21 @@ module _ (s : List ℕ) (i : ℕ) (h : i + 1 < length s) (before : NoPairIn 0 i 
     other-there : (k : ℕ) → (k ≡ i → ⊥) → (k ≡ i + 1 → ⊥) → get_or changed k 0 ≡ get_or s k 0
     other-there k n l = get_or-set_other (set s i c) (i + 1) k m 0 l ∙ get_or-set_other s i k c 0 n
 
-    none_left : (k : ℕ) → isPair (drop k changed) ≡ false
-    none_left k = pair-at changed k ∙ by_place (ℕ_discrete (k + 1) i) (ℕ_discrete k i) (ℕ_discrete k (i + 1))
+    none-left : (k : ℕ) → isPair (drop k changed) ≡ false
+    none-left k = pair-at changed k ∙ by-place (ℕ_discrete (k + 1) i) (ℕ_discrete k i) (ℕ_discrete k (i + 1))
       where
-        by_place : Dec (k + 1 ≡ i) → Dec (k ≡ i) → Dec (k ≡ i + 1) → (First (get_or changed k 0) && Second (get_or changed (k + 1) 0)) ≡ false
-        by_place (yes e) q r =
+        by-place : Dec (k + 1 ≡ i) → Dec (k ≡ i) → Dec (k ≡ i + 1) → (First (get_or changed k 0) && Second (get_or changed (k + 1) 0)) ≡ false
+        by-place (yes e) q r =
             let z : i - 1 ≡ k = omega arith in
-            and_no _ _ (ap First (other-there k (λ w. omega arith) (λ w. omega arith)) ∙ ap (λ (n : ℕ). First (get_or s n 0)) (sym z) ∙ alone (omega arith))
-        by_place (no e) (yes q) r =
+            and-no _ _ (ap First (other-there k (λ w. omega arith) (λ w. omega arith)) ∙ ap (λ (n : ℕ). First (get_or s n 0)) (sym z) ∙ alone (omega arith))
+        by-place (no e) (yes q) r =
             ap (λ (n : ℕ). First (get_or changed k 0) && Second (get_or changed (n + 1) 0)) q
             ∙ ap (λ (x : ℕ). First (get_or changed k 0) && Second x) mark-there
             ∙ ap (λ (b : Bool). First (get_or changed k 0) && b) ng
             ∙ and-false (First (get_or changed k 0))
-        by_place (no e) (no q) (yes r) = and_no _ _ (ap (λ (n : ℕ). First (get_or changed n 0)) r ∙ ap First mark-there ∙ nf)
-        by_place (no e) (no q) (no r) =
-            ap₂ (λ (x y : ℕ). First x && Second y) (other-there k q r) (other-there (k + 1) e (λ w. omega arith)) ∙ sym (pair-at s k) ∙ no_other k q
+        by-place (no e) (no q) (yes r) = and-no _ _ (ap (λ (n : ℕ). First (get_or changed n 0)) r ∙ ap First mark-there ∙ nf)
+        by-place (no e) (no q) (no r) =
+            ap₂ (λ (x y : ℕ). First x && Second y) (other-there k q r) (other-there (k + 1) e (λ w. omega arith)) ∙ sym (pair-at s k) ∙ no-other k q
 
   one-rule : (r : List ℕ × List ℕ) (v : VowelRule r) → begins r.0 (drop i s) ≡ true → replaceAll r.0 r.1 s ≡ put r.1
   one-rule r v e =
@@ -167,8 +167,8 @@ module _ (s : List ℕ) (i : ℕ) (h : i + 1 < length s) (before : NoPairIn 0 i 
       let somewhat : 0 < length r.0 = omega arith in
       let z : i + length r.0 ≡ i + 2 = omega arith in
       replace-once r.0 r.1 somewhat s i e
-      (λ k l. no-pair-begins r v (drop k s) (no_other k (λ w. omega arith)))
-      (λ k l. no-pair-begins r v (drop k s) (no_other k (λ w. omega arith)))
+      (λ k l. no-pair-begins r v (drop k s) (no-other k (λ w. omega arith)))
+      (λ k l. no-pair-begins r v (drop k s) (no-other k (λ w. omega arith)))
       ∙ ap (λ (n : ℕ). take i s ++ (r.1 ++ drop n s)) z
 
   put-changed : (r : List ℕ × List ℕ) (v : VowelRule r) → put r.1 ≡ set (set s i v.c) (i + 1) v.mark
@@ -185,23 +185,23 @@ module _ (s : List ℕ) (i : ℕ) (h : i + 1 < length s) (before : NoPairIn 0 i 
       (λ e.
       let same = one-rule r v (two-letters r v ∙ e) ∙ put-changed r v in
       ap (respell rs) same
-      ∙ quiet rs u (set (set s i v.c) (i + 1) v.mark) (none_left v.c v.mark v.not_first v.not-second)
+      ∙ quiet rs u (set (set s i v.c) (i + 1) v.mark) (none-left v.c v.mark v.not-first v.not-second)
       ∙ sym (put-changed r v)
       ∙ sym (ap put (text-yes _ r.1 (replacement rs f g) e)))
       (λ e.
-      let missed : (k : ℕ) → begins r.0 (drop k s) ≡ false = λ k. by_place k (ℕ_discrete k i) e in
+      let missed : (k : ℕ) → begins r.0 (drop k s) ≡ false = λ k. by-place k (ℕ_discrete k i) e in
       ap (respell rs) (replace-none r.0 r.1 s (λ k l. missed k))
       ∙ respell-once rs u
       ∙ sym (ap put (text-no _ r.1 (replacement rs f g) e)))
     where
-      by_place : (k : ℕ) → Dec (k ≡ i) → begins r.0 (f ∷ g ∷ []) ≡ false → begins r.0 (drop k s) ≡ false
-      by_place k (yes q) e = ap (λ (n : ℕ). begins r.0 (drop n s)) q ∙ two-letters r v ∙ e
-      by_place k (no q) e = no-pair-begins r v (drop k s) (no_other k q)
+      by-place : (k : ℕ) → Dec (k ≡ i) → begins r.0 (f ∷ g ∷ []) ≡ false → begins r.0 (drop k s) ≡ false
+      by-place k (yes q) e = ap (λ (n : ℕ). begins r.0 (drop n s)) q ∙ two-letters r v ∙ e
+      by-place k (no q) e = no-pair-begins r v (drop k s) (no-other k q)
 
 -- the sixteen vowel rules are such rules
 rule : (a b c m : ℕ) → First a ≡ true → Second b ≡ true → First m ≡ false → Second m ≡ false → VowelRule (a ∷ b ∷ [], c ∷ m ∷ [])
 rule a b c m e f g h =
-    record { a = a; b = b; c = c; mark = m; pattern = refl; result = refl; first = e; second = f; not_first = g; not-second = h }
+    record { a = a; b = b; c = c; mark = m; pattern = refl; result = refl; first = e; second = f; not-first = g; not-second = h }
 
 vowel-rules : Rules vowelRules
 unfolding listed
@@ -244,21 +244,21 @@ vowel-rules = (
 )
 
 -- one of four letters
-one_of : (a b c d x : ℕ) → listed (a ∷ b ∷ c ∷ d ∷ []) x ≡ true → (x ≡ a) ⊎ ((x ≡ b) ⊎ ((x ≡ c) ⊎ (x ≡ d)))
+one-of : (a b c d x : ℕ) → listed (a ∷ b ∷ c ∷ d ∷ []) x ≡ true → (x ≡ a) ⊎ ((x ≡ b) ⊎ ((x ≡ c) ⊎ (x ≡ d)))
 unfolding listed
-one_of a b c d x e =
+one-of a b c d x e =
     either (eqb a x) (λ y. inl (sym (eqb-true a x y)))
     (λ n. either (eqb b x) (λ y. inr (inl (sym (eqb-true b x y))))
     (λ m. either (eqb c x) (λ y. inr (inr (inl (sym (eqb-true c x y)))))
     (λ l. either (eqb d x) (λ y. inr (inr (inr (sym (eqb-true d x y)))))
-    (λ k. absurd (false-true (sym (or_no _ _ n ∙ or_no _ _ m ∙ or_no _ _ l ∙ or_no _ _ k) ∙ e))))))
+    (λ k. absurd (false-true (sym (or-no _ _ n ∙ or-no _ _ m ∙ or-no _ _ l ∙ or-no _ _ k) ∙ e))))))
 
 abbrev Pairs : (ℕ → ℕ → List ℕ) → ℕ → ℕ → Type 0
 Pairs result x y = replacement vowelRules x y ≡ result x y
 
 -- what holds behind each second letter holds behind any
 by-second : (result : ℕ → ℕ → List ℕ) (x y : ℕ) → Second y ≡ true → Pairs result x 0x6F → Pairs result x 0x4F → Pairs result x 0x75 → Pairs result x 0x55 → Pairs result x y
-by-second result x y e o O u U = go (one_of 0x6F 0x4F 0x75 0x55 y e)
+by-second result x y e o O u U = go (one-of 0x6F 0x4F 0x75 0x55 y e)
   where
     go : (y ≡ 0x6F) ⊎ ((y ≡ 0x4F) ⊎ ((y ≡ 0x75) ⊎ (y ≡ 0x55))) → Pairs result x y
     go (inl z) = subst (Pairs result x) (sym z) o
@@ -279,7 +279,7 @@ o-pairs x y (inr z) e = subst (λ (w : ℕ). Pairs dotted-o w y) (sym z) (by-sec
 
 e-pairs : (x y : ℕ) → First x ≡ true → ((x ≡ 0x4F) ⊎ (x ≡ 0x6F) → ⊥) → Second y ≡ true → Pairs below-e x y
 unfolding begins
-e-pairs x y f n e = go (one_of 0x6F 0x4F 0x65 0x45 x f)
+e-pairs x y f n e = go (one-of 0x6F 0x4F 0x65 0x45 x f)
   where
     go : (x ≡ 0x6F) ⊎ ((x ≡ 0x4F) ⊎ ((x ≡ 0x65) ⊎ (x ≡ 0x45))) → Pairs below-e x y
     go (inl z) = absurd (n (inr z))
@@ -294,37 +294,37 @@ module _ (s : List ℕ) (i : ℕ) (pair : isPair (drop i s) ≡ true) (before : 
   both = sym (pair-at s i) ∙ pair
 
   -- the second letter stands in the text
-  pub pair_fits : i + 1 < length s
+  pub pair-fits : i + 1 < length s
   unfolding listed
-  pair_fits = by_end (dec_le (length s) (i + 1))
+  pair-fits = by-end (dec_le (length s) (i + 1))
     where
-      by_end : Dec (length s ≤ i + 1) → i + 1 < length s
-      by_end (yes h) =
-          absurd (false-true (sym (ap Second (get_or-eq_default s 0 h)) ∙ and_right (First (get_or s i 0)) (Second (get_or s (i + 1) 0)) both))
-      by_end (no h) = omega arith
+      by-end : Dec (length s ≤ i + 1) → i + 1 < length s
+      by-end (yes h) =
+          absurd (false-true (sym (ap Second (get_or-eq_default s 0 h)) ∙ and-right (First (get_or s i 0)) (Second (get_or s (i + 1) 0)) both))
+      by-end (no h) = omega arith
 
   pub vowels-o : (get_or s i 0 ≡ 0x4F) ⊎ (get_or s i 0 ≡ 0x6F) → respell vowelRules s ≡ set s (i + 1) 0x0358
   vowels-o e =
-      respell-once s i pair_fits before after alone vowelRules vowel-rules
-      ∙ ap (λ (t : List ℕ). take i s ++ (t ++ drop (i + 2) s)) (o-pairs (get_or s i 0) (get_or s (i + 1) 0) e (and_right (First (get_or s i 0)) (Second (get_or s (i + 1) 0)) both))
-      ∙ stored-two s i (get_or s i 0) 0x0358 pair_fits
+      respell-once s i pair-fits before after alone vowelRules vowel-rules
+      ∙ ap (λ (t : List ℕ). take i s ++ (t ++ drop (i + 2) s)) (o-pairs (get_or s i 0) (get_or s (i + 1) 0) e (and-right (First (get_or s i 0)) (Second (get_or s (i + 1) 0)) both))
+      ∙ stored-two s i (get_or s i 0) 0x0358 pair-fits
       ∙ ap (λ (t : List ℕ). set t (i + 1) 0x0358) (set-get_or s i 0)
 
   pub vowels-e : ((get_or s i 0 ≡ 0x4F) ⊎ (get_or s i 0 ≡ 0x6F) → ⊥) → respell vowelRules s ≡ set (set s i (get_or s (i + 1) 0)) (i + 1) 0x0324
   vowels-e n =
-      respell-once s i pair_fits before after alone vowelRules vowel-rules
+      respell-once s i pair-fits before after alone vowelRules vowel-rules
       ∙ ap (λ (t : List ℕ). take i s ++ (t ++ drop (i + 2) s))
-      (e-pairs (get_or s i 0) (get_or s (i + 1) 0) (and_left (First (get_or s i 0)) (Second (get_or s (i + 1) 0)) both) n (and_right (First (get_or s i 0)) (Second (get_or s (i + 1) 0)) both))
-      ∙ stored-two s i (get_or s (i + 1) 0) 0x0324 pair_fits
+      (e-pairs (get_or s i 0) (get_or s (i + 1) 0) (and-left (First (get_or s i 0)) (Second (get_or s (i + 1) 0)) both) n (and-right (First (get_or s i 0)) (Second (get_or s (i + 1) 0)) both))
+      ∙ stored-two s i (get_or s (i + 1) 0) 0x0324 pair-fits
 
 -- a text without a pair
 pub vowels-none : (s : List ℕ) → NoPairIn 0 (length s) s → respell vowelRules s ≡ s
 unfolding isPair
-vowels-none s n = quiet vowelRules vowel-rules s (λ k. by_end k (dec_le (length s) k))
+vowels-none s n = quiet vowelRules vowel-rules s (λ k. by-end k (dec_le (length s) k))
   where
-    by_end : (k : ℕ) → Dec (length s ≤ k) → isPair (drop k s) ≡ false
-    by_end k (yes h) = ap isPair (drop_of_length-le s h)
-    by_end k (no h) = n k (omega arith) (omega arith)
+    by-end : (k : ℕ) → Dec (length s ≤ k) → isPair (drop k s) ≡ false
+    by-end k (yes h) = ap isPair (drop_of_length-le s h)
+    by-end k (no h) = n k (omega arith) (omega arith)
 
 -- ── nn at the end only
 abbrev IsN : ℕ → Bool
@@ -360,9 +360,9 @@ unfolding begins isNasalPair
 begins-nasal a b f g [] e = absurd (false-true e)
 begins-nasal a b f g (x ∷ []) e = absurd (false-true (sym (and-false (eqb x a)) ∙ e))
 begins-nasal a b f g (x ∷ (y ∷ s)) e =
-    let x-is = eqb-true x a (and_left (eqb x a) (eqb y b && true) e) in
-    let y-is = eqb-true y b (and_left (eqb y b) true (and_right (eqb x a) (eqb y b && true) e)) in
-    and_yes _ _ (ap IsN x-is ∙ f) ∙ ap IsN y-is ∙ g
+    let x-is = eqb-true x a (and-left (eqb x a) (eqb y b && true) e) in
+    let y-is = eqb-true y b (and-left (eqb y b) true (and-right (eqb x a) (eqb y b && true) e)) in
+    and-yes _ _ (ap IsN x-is ∙ f) ∙ ap IsN y-is ∙ g
 
 no-nasal-begins : (r : List ℕ × List ℕ) → NasalRule r → (s : List ℕ) → isNasalPair s ≡ false → begins r.0 s ≡ false
 no-nasal-begins r v s e =
@@ -383,16 +383,16 @@ module _ (s : List ℕ) (i : ℕ) (h : i + 2 ≡ length s) (before : NoNasalBefo
 
   other-nasal : (k : ℕ) → (k ≡ i → ⊥) → isNasalPair (drop k s) ≡ false
   unfolding lower
-  other-nasal k n = by_end (dec_le (i + 1) k)
+  other-nasal k n = by-end (dec_le (i + 1) k)
     where
-      by_end : Dec (i + 1 ≤ k) → isNasalPair (drop k s) ≡ false
-      by_end (yes l) =
+      by-end : Dec (i + 1 ≤ k) → isNasalPair (drop k s) ≡ false
+      by-end (yes l) =
           let beyond : length s ≤ k + 1 = omega arith in
           nasal-at s k ∙ ap (λ (z : ℕ). IsN (get_or s k 0) && IsN z) (get_or-eq_default s 0 beyond) ∙ and-false (IsN (get_or s k 0))
-      by_end (no l) = before k (omega arith)
+      by-end (no l) = before k (omega arith)
 
-  end_is : drop i s ≡ x ∷ y ∷ []
-  end_is =
+  end-is : drop i s ≡ x ∷ y ∷ []
+  end-is =
       let z : length s ≤ i + 1 + 1 = omega arith in
       drop-next s i (omega arith) ∙ ap (λ (t : List ℕ). x ∷ t) (drop-next s (i + 1) (omega arith) ∙ ap (λ (t : List ℕ). y ∷ t) (drop_of_length-le s z))
 
@@ -418,17 +418,17 @@ module _ (s : List ℕ) (i : ℕ) (h : i + 2 ≡ length s) (before : NoNasalBefo
 
     none-signed : (k : ℕ) → isNasalPair (drop k signed) ≡ false
     unfolding lower
-    none-signed k = nasal-at signed k ∙ by_place (dec_le i k) (ℕ_discrete k i) (ℕ_discrete (k + 1) i)
+    none-signed k = nasal-at signed k ∙ by-place (dec_le i k) (ℕ_discrete k i) (ℕ_discrete (k + 1) i)
       where
-        by_place : Dec (i ≤ k) → Dec (k ≡ i) → Dec (k + 1 ≡ i) → (IsN (get_or signed k 0) && IsN (get_or signed (k + 1) 0)) ≡ false
-        by_place (yes l) (yes e) r = and_no _ _ (ap (λ (n : ℕ). IsN (get_or signed n 0)) e ∙ ap IsN sign-there ∙ other)
-        by_place (yes l) (no e) r = and_no _ _ (ap IsN (none-there k (omega arith)))
-        by_place (no l) q (yes e) =
+        by-place : Dec (i ≤ k) → Dec (k ≡ i) → Dec (k + 1 ≡ i) → (IsN (get_or signed k 0) && IsN (get_or signed (k + 1) 0)) ≡ false
+        by-place (yes l) (yes e) r = and-no _ _ (ap (λ (n : ℕ). IsN (get_or signed n 0)) e ∙ ap IsN sign-there ∙ other)
+        by-place (yes l) (no e) r = and-no _ _ (ap IsN (none-there k (omega arith)))
+        by-place (no l) q (yes e) =
             ap (λ (n : ℕ). IsN (get_or signed k 0) && IsN (get_or signed n 0)) e
             ∙ ap (λ (z : ℕ). IsN (get_or signed k 0) && IsN z) sign-there
             ∙ ap (λ (b : Bool). IsN (get_or signed k 0) && b) other
             ∙ and-false (IsN (get_or signed k 0))
-        by_place (no l) q (no e) =
+        by-place (no l) q (no e) =
             ap₂ (λ (u v : ℕ). IsN u && IsN v) (front-there k (omega arith)) (front-there (k + 1) (omega arith)) ∙ sym (nasal-at s k) ∙ before k (omega arith)
 
   nasal-rule : (r : List ℕ × List ℕ) (v : NasalRule r) → begins r.0 (x ∷ y ∷ []) ≡ true → replaceAll r.0 r.1 s ≡ take i s ++ r.1
@@ -436,7 +436,7 @@ module _ (s : List ℕ) (i : ℕ) (h : i + 2 ≡ length s) (before : NoNasalBefo
       let two : length r.0 ≡ 2 = ap length v.pattern in
       let somewhat : 0 < length r.0 = omega arith in
       let past : length s ≤ i + length r.0 = omega arith in
-      replace-once r.0 r.1 somewhat s i (ap (begins r.0) end_is ∙ e)
+      replace-once r.0 r.1 somewhat s i (ap (begins r.0) end-is ∙ e)
       (λ k l. no-nasal-begins r v (drop k s) (other-nasal k (λ w. omega arith)))
       (λ k l. no-nasal-begins r v (drop k s) (other-nasal k (λ w. omega arith)))
       ∙ ap (λ (t : List ℕ). take i s ++ (r.1 ++ t)) (drop_of_length-le s past)
@@ -446,7 +446,7 @@ module _ (s : List ℕ) (i : ℕ) (h : i + 2 ≡ length s) (before : NoNasalBefo
   respell-end [] u = sym (split-end s i)
     where
       split-end : (l : List ℕ) (n : ℕ) → take i s ++ (x ∷ y ∷ []) ≡ s
-      split-end l n = ap (λ (t : List ℕ). take i s ++ t) (sym end_is) ∙ take-append-drop i s
+      split-end l n = ap (λ (t : List ℕ). take i s ++ t) (sym end-is) ∙ take-append-drop i s
   respell-end (r ∷ rs) (v, u) =
       either (begins r.0 (x ∷ y ∷ []))
       (λ e.
@@ -455,13 +455,13 @@ module _ (s : List ℕ) (i : ℕ) (h : i + 2 ≡ length s) (before : NoNasalBefo
       ∙ quiet-nasals rs u (take i s ++ (v.sign ∷ [])) (none-signed v.sign v.other)
       ∙ ap (λ (t : List ℕ). take i s ++ t) (sym v.result ∙ sym (text-yes _ r.1 (replacement rs x y) e)))
       (λ e.
-      ap (respell rs) (replace-none r.0 r.1 s (λ k l. by_place k (ℕ_discrete k i) e))
+      ap (respell rs) (replace-none r.0 r.1 s (λ k l. by-place k (ℕ_discrete k i) e))
       ∙ respell-end rs u
       ∙ ap (λ (t : List ℕ). take i s ++ t) (sym (text-no _ r.1 (replacement rs x y) e)))
     where
-      by_place : (k : ℕ) → Dec (k ≡ i) → begins r.0 (x ∷ y ∷ []) ≡ false → begins r.0 (drop k s) ≡ false
-      by_place k (yes q) e = ap (λ (n : ℕ). begins r.0 (drop n s)) q ∙ ap (begins r.0) end_is ∙ e
-      by_place k (no q) e = no-nasal-begins r v (drop k s) (other-nasal k q)
+      by-place : (k : ℕ) → Dec (k ≡ i) → begins r.0 (x ∷ y ∷ []) ≡ false → begins r.0 (drop k s) ≡ false
+      by-place k (yes q) e = ap (λ (n : ℕ). begins r.0 (drop n s)) q ∙ ap (begins r.0) end-is ∙ e
+      by-place k (no q) e = no-nasal-begins r v (drop k s) (other-nasal k q)
 
 nasal : (a b c : ℕ) → IsN a ≡ true → IsN b ≡ true → IsN c ≡ false → NasalRule (a ∷ b ∷ [], c ∷ [])
 nasal a b c e f g = record { a = a; b = b; sign = c; pattern = refl; result = refl; first = e; second = f; other = g }
@@ -494,11 +494,11 @@ nasal-small x y (inr e) (inr f) n = absurd (n f e)
 
 module _ (s : List ℕ) (e : endsNasal s ≡ true) where
   pub nasal-three : 3 ≤ length s
-  nasal-three = by_length (dec_le 3 (length s))
+  nasal-three = by-length (dec_le 3 (length s))
     where
-      by_length : Dec (3 ≤ length s) → 3 ≤ length s
-      by_length (yes h) = h
-      by_length (no h) = absurd (false-true (sym (nasal-short s (omega arith)) ∙ e))
+      by-length : Dec (3 ≤ length s) → 3 ≤ length s
+      by-length (yes h) = h
+      by-length (no h) = absurd (false-true (sym (nasal-short s (omega arith)) ∙ e))
 
   abbrev i : ℕ
   i = length s - 2
@@ -507,12 +507,12 @@ module _ (s : List ℕ) (e : endsNasal s ≡ true) where
   tests = sym (nasal-read s nasal-three) ∙ e
 
   last-n : IsN (get_or s (length s - 1) 0) ≡ true
-  last-n = and_right (listed (marked "aeiouptkhm" 0x0358) (lower (get_or s (length s - 3) 0)) && IsN (get_or s i 0)) (IsN (get_or s (length s - 1) 0)) tests
+  last-n = and-right (listed (marked "aeiouptkhm" 0x0358) (lower (get_or s (length s - 3) 0)) && IsN (get_or s i 0)) (IsN (get_or s (length s - 1) 0)) tests
 
   second-n : IsN (get_or s i 0) ≡ true
   second-n =
-      and_right (listed (marked "aeiouptkhm" 0x0358) (lower (get_or s (length s - 3) 0))) (IsN (get_or s i 0))
-      (and_left (listed (marked "aeiouptkhm" 0x0358) (lower (get_or s (length s - 3) 0)) && IsN (get_or s i 0)) (IsN (get_or s (length s - 1) 0)) tests)
+      and-right (listed (marked "aeiouptkhm" 0x0358) (lower (get_or s (length s - 3) 0))) (IsN (get_or s i 0))
+      (and-left (listed (marked "aeiouptkhm" 0x0358) (lower (get_or s (length s - 3) 0)) && IsN (get_or s i 0)) (IsN (get_or s (length s - 1) 0)) tests)
 
   place : i + 2 ≡ length s
   place = omega (arith, nasal-three)
@@ -545,11 +545,11 @@ front-signed s sign h =
 sign-last : (s : List ℕ) (c : ℕ) → 0x1D3A ≤ c → NoSignBefore s → listed s c ≡ true → last s ≡ c
 unfolding listed last
 sign-last [] c h n e = absurd (false-true e)
-sign-last (x ∷ []) c h n e = either (eqb x c) (λ y. eqb-true x c y) (λ m. absurd (false-true (sym (or_no _ _ m) ∙ e)))
+sign-last (x ∷ []) c h n e = either (eqb x c) (λ y. eqb-true x c y) (λ m. absurd (false-true (sym (or-no _ _ m) ∙ e)))
 sign-last (x ∷ (y ∷ s)) c h n e =
     let low : x < 0x1D3A = n 0 (omega arith) in
     let other : eqb x c ≡ false = ne_eqb x c (λ z. omega arith) in
-    last-skip x y s ∙ sign-last (y ∷ s) c h (λ k l. n (suc k) (omega arith)) (sym (or_no _ _ other) ∙ e)
+    last-skip x y s ∙ sign-last (y ∷ s) c h (λ k l. n (suc k) (omega arith)) (sym (or-no _ _ other) ∙ e)
 
 moved-lone : (s : List ℕ) (c : ℕ) → 0x1D3A ≤ c → NoSignBefore s → moved c s ≡ s
 unfolding moved
@@ -602,14 +602,14 @@ dot-before-o x y z (inr e) = rw e (simp and-false)
 
 module _ (s : List ℕ) (n : NoSignBefore s) where
   low-at : (k : ℕ) → (k + 1 ≡ length s → ⊥) → get_or s k 0 < 0x1D3A
-  low-at k l = by_end (dec_le (length s) k)
+  low-at k l = by-end (dec_le (length s) k)
     where
-      by_end : Dec (length s ≤ k) → get_or s k 0 < 0x1D3A
-      by_end (yes h) = rw (get_or-eq_default s 0 h) (omega arith)
-      by_end (no h) = n k (omega arith)
+      by-end : Dec (length s ≤ k) → get_or s k 0 < 0x1D3A
+      by-end (yes h) = rw (get_or-eq_default s 0 h) (omega arith)
+      by-end (no h) = n k (omega arith)
 
   no-dot : (k : ℕ) → (k + 2 ≡ length s → ⊥) → (k + 3 ≡ length s → ⊥) → takesDot (drop k s) ≡ false
-  no-dot k l m = dot_at s k ∙ low-dot (get_or s k 0) (get_or s (k + 1) 0) (get_or s (k + 2) 0) (low-at (k + 1) (λ w. l (omega arith))) (low-at (k + 2) (λ w. m (omega arith)))
+  no-dot k l m = dot-at s k ∙ low-dot (get_or s k 0) (get_or s (k + 1) 0) (get_or s (k + 2) 0) (low-at (k + 1) (λ w. l (omega arith))) (low-at (k + 2) (λ w. m (omega arith)))
 
   dots-none : ((k : ℕ) → takesDot (drop k s) ≡ false) → DotAt 0 s
   dots-none h = record { nowhere = λ e. o-dotted s ∙ dotted-quiet s h; behind = λ e. absurd (omega arith) }
@@ -626,39 +626,39 @@ module _ (s : List ℕ) (n : NoSignBefore s) where
 
   pub dot-low : get_or s (length s - 1) 0 < 0x1D3A → DotAt 0 s
   dot-low h =
-      dots-none (λ k. dot_at s k ∙ low-dot (get_or s k 0) (get_or s (k + 1) 0) (get_or s (k + 2) 0) (all-low (k + 1)) (all-low (k + 2)))
+      dots-none (λ k. dot-at s k ∙ low-dot (get_or s k 0) (get_or s (k + 1) 0) (get_or s (k + 2) 0) (all-low (k + 1)) (all-low (k + 2)))
     where
       all-low : (k : ℕ) → get_or s k 0 < 0x1D3A
-      all-low k = by_end (ℕ_discrete (k + 1) (length s))
+      all-low k = by-end (ℕ_discrete (k + 1) (length s))
         where
-          by_end : Dec (k + 1 ≡ length s) → get_or s k 0 < 0x1D3A
-          by_end (yes e) = let z : length s - 1 ≡ k = omega arith in subst (λ (m : ℕ). get_or s m 0 < 0x1D3A) z h
-          by_end (no e) = low-at k e
+          by-end : Dec (k + 1 ≡ length s) → get_or s k 0 < 0x1D3A
+          by-end (yes e) = let z : length s - 1 ≡ k = omega arith in subst (λ (m : ℕ). get_or s m 0 < 0x1D3A) z h
+          by-end (no e) = low-at k e
 
   module _ (two : 2 ≤ length s) where
     pub dot-last : takesDot (drop (length s - 2) s) ≡ true → DotAt (length s - 1) s
-    dot-last e = dots-one (length s - 2) (length s - 1) (omega arith) (omega arith) e (λ j l. by_place j l (ℕ_discrete (j + 3) (length s)))
+    dot-last e = dots-one (length s - 2) (length s - 1) (omega arith) (omega arith) e (λ j l. by-place j l (ℕ_discrete (j + 3) (length s)))
       where
         letter : (get_or s (length s - 2) 0 ≡ 0x4F) ⊎ (get_or s (length s - 2) 0 ≡ 0x6F)
-        letter = dot-letter (get_or s (length s - 2) 0) (get_or s (length s - 2 + 1) 0) (get_or s (length s - 2 + 2) 0) (sym (dot_at s (length s - 2)) ∙ e)
+        letter = dot-letter (get_or s (length s - 2) 0) (get_or s (length s - 2 + 1) 0) (get_or s (length s - 2 + 2) 0) (sym (dot-at s (length s - 2)) ∙ e)
 
-        by_place : (j : ℕ) → (j ≡ length s - 2 → ⊥) → Dec (j + 3 ≡ length s) → takesDot (drop j s) ≡ false
-        by_place j l (yes m) =
+        by-place : (j : ℕ) → (j ≡ length s - 2 → ⊥) → Dec (j + 3 ≡ length s) → takesDot (drop j s) ≡ false
+        by-place j l (yes m) =
             let z : j + 1 ≡ length s - 2 = omega arith in
-            dot_at s j ∙ dot-before-o (get_or s j 0) (get_or s (j + 1) 0) (get_or s (j + 2) 0) (subst (λ (k : ℕ). (get_or s k 0 ≡ 0x4F) ⊎ (get_or s k 0 ≡ 0x6F)) (sym z) letter)
-        by_place j l (no m) = no-dot j (λ w. l (omega arith)) m
+            dot-at s j ∙ dot-before-o (get_or s j 0) (get_or s (j + 1) 0) (get_or s (j + 2) 0) (subst (λ (k : ℕ). (get_or s k 0 ≡ 0x4F) ⊎ (get_or s k 0 ≡ 0x6F)) (sym z) letter)
+        by-place j l (no m) = no-dot j (λ w. l (omega arith)) m
 
     pub dot-second : 2 < length s → takesDot (drop (length s - 2) s) ≡ false → takesDot (drop (length s - 3) s) ≡ true → DotAt (length s - 2) s
-    dot-second three f e = dots-one (length s - 3) (length s - 2) (omega arith) (omega arith) e (λ j l. by_place j l (ℕ_discrete (j + 2) (length s)))
+    dot-second three f e = dots-one (length s - 3) (length s - 2) (omega arith) (omega arith) e (λ j l. by-place j l (ℕ_discrete (j + 2) (length s)))
       where
-        by_place : (j : ℕ) → (j ≡ length s - 3 → ⊥) → Dec (j + 2 ≡ length s) → takesDot (drop j s) ≡ false
-        by_place j l (yes m) = let z : j ≡ length s - 2 = omega arith in ap (λ (k : ℕ). takesDot (drop k s)) z ∙ f
-        by_place j l (no m) = no-dot j m (λ w. l (omega arith))
+        by-place : (j : ℕ) → (j ≡ length s - 3 → ⊥) → Dec (j + 2 ≡ length s) → takesDot (drop j s) ≡ false
+        by-place j l (yes m) = let z : j ≡ length s - 2 = omega arith in ap (λ (k : ℕ). takesDot (drop k s)) z ∙ f
+        by-place j l (no m) = no-dot j m (λ w. l (omega arith))
 
     pub dot-nowhere : takesDot (drop (length s - 2) s) ≡ false → (2 < length s → takesDot (drop (length s - 3) s) ≡ false) → DotAt 0 s
-    dot-nowhere f g = dots-none (λ j. by_place j (ℕ_discrete (j + 2) (length s)) (ℕ_discrete (j + 3) (length s)))
+    dot-nowhere f g = dots-none (λ j. by-place j (ℕ_discrete (j + 2) (length s)) (ℕ_discrete (j + 3) (length s)))
       where
-        by_place : (j : ℕ) → Dec (j + 2 ≡ length s) → Dec (j + 3 ≡ length s) → takesDot (drop j s) ≡ false
-        by_place j (yes m) q = let z : j ≡ length s - 2 = omega arith in ap (λ (k : ℕ). takesDot (drop k s)) z ∙ f
-        by_place j (no m) (yes q) = let z : j ≡ length s - 3 = omega arith in ap (λ (k : ℕ). takesDot (drop k s)) z ∙ g (omega arith)
-        by_place j (no m) (no q) = no-dot j m q
+        by-place : (j : ℕ) → Dec (j + 2 ≡ length s) → Dec (j + 3 ≡ length s) → takesDot (drop j s) ≡ false
+        by-place j (yes m) q = let z : j ≡ length s - 2 = omega arith in ap (λ (k : ℕ). takesDot (drop k s)) z ∙ f
+        by-place j (no m) (yes q) = let z : j ≡ length s - 3 = omega arith in ap (λ (k : ℕ). takesDot (drop k s)) z ∙ g (omega arith)
+        by-place j (no m) (no q) = no-dot j m q

@@ -9,7 +9,7 @@ use borrow.Author.Tests.{eq-eqb, eqb-true}
 use Rattle.ji.specs.Unicode.{listed}
 use Rattle.ji.specs.Text.{points, begins, replaceAll}
 use Rattle.ji.specs.Lomaji.Keys.{respell}
-use Rattle.ji.proofs.Bools.{either, false-true, and_yes, and-false, and_left, and_right, or_yes, or_no}
+use Rattle.ji.proofs.Bools.{either, false-true, and-yes, and-false, and-left, and-right, or-yes, or-no}
 use Rattle.ji.proofs.text.Laws.{drop-next, replace-nil, replace-miss}
 use Rattle.khiin.specs.Syllable.{vowelRules}
 use Rattle.khiin.specs.Compose.{apartFrom, oPairs, ePairs}
@@ -18,7 +18,7 @@ module _ (F G : List ℕ) where
   -- the walk
   pub apart-step : (before : ℕ) (s : List ℕ) (i : ℕ) → i < length s → (listed F before && listed G (get_or s i 0)) ≡ false → apartFrom F G before (drop i s) ≡ apartFrom F G (get_or s i 0) (drop (i + 1) s)
   unfolding apartFrom
-  apart-step before s i h e = ap (apartFrom F G before) (drop-next s i h) ∙ and_yes _ _ (ap not e)
+  apart-step before s i h e = ap (apartFrom F G before) (drop-next s i h) ∙ and-yes _ _ (ap not e)
 
   pub apart-end : (before : ℕ) (s : List ℕ) (i : ℕ) → length s ≤ i → apartFrom F G before (drop i s) ≡ true
   unfolding apartFrom
@@ -26,11 +26,11 @@ module _ (F G : List ℕ) where
 
   apart-rest : (before x : ℕ) (s : List ℕ) → apartFrom F G before (x ∷ s) ≡ true → apartFrom F G x s ≡ true
   unfolding apartFrom
-  apart-rest before x s h = and_right (not (listed F before && listed G x)) (apartFrom F G x s) h
+  apart-rest before x s h = and-right (not (listed F before && listed G x)) (apartFrom F G x s) h
 
   not-both : (before x : ℕ) (s : List ℕ) → apartFrom F G before (x ∷ s) ≡ true → (listed F before && listed G x) ≡ true → ⊥
   unfolding apartFrom
-  not-both before x s h e = false-true (sym (ap not e) ∙ and_left (not (listed F before && listed G x)) (apartFrom F G x s) h)
+  not-both before x s h e = false-true (sym (ap not e) ∙ and-left (not (listed F before && listed G x)) (apartFrom F G x s) h)
 
   -- a pattern of a first and a second letter
   module _ (f g : ℕ) (first : listed F f ≡ true) (second : listed G g ≡ true) where
@@ -40,9 +40,9 @@ module _ (F G : List ℕ) where
     absent x (y ∷ s) h =
         either (begins (f ∷ g ∷ []) (x ∷ y ∷ s))
         (λ e.
-        let x-is = eqb-true x f (and_left (eqb x f) (eqb y g && true) e) in
-        let y-is = eqb-true y g (and_left (eqb y g) true (and_right (eqb x f) (eqb y g && true) e)) in
-        absurd (not-both x y s h (and_yes _ _ (ap (listed F) x-is ∙ first) ∙ ap (listed G) y-is ∙ second)))
+        let x-is = eqb-true x f (and-left (eqb x f) (eqb y g && true) e) in
+        let y-is = eqb-true y g (and-left (eqb y g) true (and-right (eqb x f) (eqb y g && true) e)) in
+        absurd (not-both x y s h (and-yes _ _ (ap (listed F) x-is ∙ first) ∙ ap (listed G) y-is ∙ second)))
         (λ e. e)
 
     stays : (r : List ℕ) (before : ℕ) (s : List ℕ) → apartFrom F G before s ≡ true → replaceAll (f ∷ g ∷ []) r s ≡ s
@@ -72,12 +72,12 @@ vowels-apart s h = respell-apart (points "oOeE") (points "oOuU") vowelRules ((0x
 -- those of a group
 listed-first : (a b : ℕ) → listed (a ∷ b ∷ []) a ≡ true
 unfolding listed
-listed-first a b = or_yes _ _ (eq-eqb a a refl)
+listed-first a b = or-yes _ _ (eq-eqb a a refl)
 
 listed-last : (a b : ℕ) → listed (a ∷ b ∷ []) b ≡ true
 unfolding listed
 listed-last a b =
-    either (eqb a b) (λ e. or_yes _ _ e) (λ n. or_no _ _ n ∙ or_yes _ _ (eq-eqb b b refl))
+    either (eqb a b) (λ e. or-yes _ _ e) (λ n. or-no _ _ n ∙ or-yes _ _ (eq-eqb b b refl))
 
 module _ (small capital : ℕ) (s : List ℕ) where
   pub o-apart : apartFrom (0x6F ∷ 0x4F ∷ []) (small ∷ capital ∷ []) 0 s ≡ true → respell (oPairs small capital) s ≡ s

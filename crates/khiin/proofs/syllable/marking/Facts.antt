@@ -10,7 +10,7 @@ use borrow.Author.Tests.{ne_eqb, eq-eqb, eqb-true, leb-true, ltb-true}
 use Rattle.ji.specs.Unicode.{Table, unicode16, mappings16, classes16, exclusions16, pickText, pickNumber, spread, same, listed, mappingIn, classIn, decomposition, combiningClass, isComposite, compositeIn, composite, pass, passes, full}
 use Rattle.ji.specs.Text.{points}
 use Rattle.ji.proofs.Cases.{none-not-some}
-use Rattle.ji.proofs.Bools.{either, false-true, and_left, and_right, number-yes, number-no, text-yes, text-no}
+use Rattle.ji.proofs.Bools.{either, false-true, and-left, and-right, number-yes, number-no, text-yes, text-no}
 use Rattle.ji.proofs.unicode.Bytes.{same-equal}
 use Rattle.ji.proofs.unicode.Laws.{spread-itself}
 use Rattle.khiin.specs.Compose.{isMark, Joined}
@@ -24,9 +24,9 @@ class-in : (rs : List (ℕ × ℕ)) → marksOnly rs ≡ true → (c : ℕ) → 
 unfolding classIn
 class-in [] h c low = refl
 class-in (r ∷ rs) h c low =
-    let k : 0x0300 ≤ r.0 = leb-true 0x0300 r.0 (and_left (leb 0x0300 r.0) (marksOnly rs) h) in
+    let k : 0x0300 ≤ r.0 = leb-true 0x0300 r.0 (and-left (leb 0x0300 r.0) (marksOnly rs) h) in
     number-no (eqb r.0 c) r.1 (classIn rs c) (ne_eqb r.0 c (λ e. omega arith))
-    ∙ class-in rs (and_right (leb 0x0300 r.0) (marksOnly rs) h) c low
+    ∙ class-in rs (and-right (leb 0x0300 r.0) (marksOnly rs) h) c low
 
 marks-only : marksOnly classes16 ≡ true
 unfolding classes16
@@ -91,8 +91,8 @@ unfolding mappingIn
 mapping-in [] h c = refl
 mapping-in (r ∷ rs) h c =
     either (eqb r.0 c)
-    (λ e. ap textFits (text-yes (eqb r.0 c) r.1 (mappingIn rs c) e) ∙ and_left (textFits r.1) (textsFit rs) h)
-    (λ e. ap textFits (text-no (eqb r.0 c) r.1 (mappingIn rs c) e) ∙ mapping-in rs (and_right (textFits r.1) (textsFit rs) h) c)
+    (λ e. ap textFits (text-yes (eqb r.0 c) r.1 (mappingIn rs c) e) ∙ and-left (textFits r.1) (textsFit rs) h)
+    (λ e. ap textFits (text-no (eqb r.0 c) r.1 (mappingIn rs c) e) ∙ mapping-in rs (and-right (textFits r.1) (textsFit rs) h) c)
 
 texts-fit : textsFit mappings16 ≡ true
 unfolding mappings16 listed
@@ -110,10 +110,10 @@ composite-is t (r ∷ rs) a b p e =
     (λ y. subst (λ (q : ℕ). isComposite t a b q ≡ true) (some-injective r.0 p (rw y at e)) y)
     (λ n. composite-is t rs a b p (rw n at e))
 
-second_fits : (a b p : ℕ) → composite unicode16 a b ≡ some p → secondFits a b ≡ true
+second-fits : (a b p : ℕ) → composite unicode16 a b ≡ some p → secondFits a b ≡ true
 unfolding composite isComposite decomposition unicode16
-second_fits a b p e =
-    let is : same (mappingIn mappings16 p) (a ∷ b ∷ []) ≡ true = and_left (same (mappingIn mappings16 p) (a ∷ b ∷ [])) _ (composite-is unicode16 mappings16 a b p e) in
+second-fits a b p e =
+    let is : same (mappingIn mappings16 p) (a ∷ b ∷ []) ≡ true = and-left (same (mappingIn mappings16 p) (a ∷ b ∷ [])) _ (composite-is unicode16 mappings16 a b p e) in
     sym (ap textFits (same-equal (mappingIn mappings16 p) (a ∷ b ∷ []) (passed _ is))) ∙ mapping-in mappings16 texts-fit p
 
 pub no-composite : (a b : ℕ) → secondFits a b ≡ false → composite unicode16 a b ≡ none
@@ -121,15 +121,15 @@ no-composite a b h = go (composite unicode16 a b) refl
   where
     go : (o : Option ℕ) → composite unicode16 a b ≡ o → composite unicode16 a b ≡ none
     go none e = e
-    go (some p) e = absurd (false-true (sym h ∙ second_fits a b p e))
+    go (some p) e = absurd (false-true (sym h ∙ second-fits a b p e))
 
 -- ── the composites of the letters
-abbrev pub is_some : ℕ → Option ℕ → Bool
-is_some r none = eqb r 1
-is_some r (some p) = eqb p r && (leb 0x80 r && ltb r 0x0300)
+abbrev pub isSome : ℕ → Option ℕ → Bool
+isSome r none = eqb r 1
+isSome r (some p) = eqb p r && (leb 0x80 r && ltb r 0x0300)
 
 unfoldable pub isJoined : ℕ → ℕ → ℕ → Bool
-isJoined x mark r = ltb x 0x80 && (isMark mark && is_some r (composite unicode16 x mark))
+isJoined x mark r = ltb x 0x80 && (isMark mark && isSome r (composite unicode16 x mark))
 
 two-left : (a b : Bool) → T (a && b) → T a
 two-left true b t = tt
@@ -140,7 +140,7 @@ two-right true b t = t
 two-right false b t = absurd t
 
 module _ (k mark r : ℕ) (low : k < 0x80) (is-mark : isMark mark ≡ true) where
-  known : (o : Option ℕ) → composite unicode16 k mark ≡ o → T (is_some r o) → Joined k mark r
+  known : (o : Option ℕ) → composite unicode16 k mark ≡ o → T (isSome r o) → Joined k mark r
   known none e h =
       let is : r ≡ 1 = eqb→eq r 1 h in
       record { letter = λ z. low; tone = λ z. is-mark; apart = λ z. e; one = λ z. absurd (let q : ⊥ = omega arith in q); small = λ z. absurd (let q : ⊥ = omega arith in q) }
@@ -151,17 +151,17 @@ module _ (k mark r : ℕ) (low : k < 0x80) (is-mark : isMark mark ≡ true) wher
       let to : r < 0x0300 = ltb→lt r 0x0300 (two-right (leb 0x80 r) (ltb r 0x0300) both) in
       record { letter = λ z. low; tone = λ z. is-mark; apart = λ z. absurd (let q : ⊥ = omega arith in q); one = λ z. e ∙ ap some is; small = λ z. (from, to) }
 
-true_of : (b : Bool) → T b → b ≡ true
-true_of true t = refl
-true_of false t = absurd t
+true-of : (b : Bool) → T b → b ≡ true
+true-of true t = refl
+true-of false t = absurd t
 
 -- at the letter k
 pub joined_at : (k mark r : ℕ) → T (isJoined k mark r) → (x : ℕ) → x ≡ k → Joined x mark r
 unfolding isJoined
 joined_at k mark r h x e =
     subst (λ (y : ℕ). Joined y mark r) (sym e)
-    (let rest = two-right (ltb k 0x80) (isMark mark && is_some r (composite unicode16 k mark)) h in
-    known k mark r (ltb→lt k 0x80 (two-left (ltb k 0x80) _ h)) (true_of (isMark mark) (two-left (isMark mark) _ rest)) (composite unicode16 k mark) refl
+    (let rest = two-right (ltb k 0x80) (isMark mark && isSome r (composite unicode16 k mark)) h in
+    known k mark r (ltb→lt k 0x80 (two-left (ltb k 0x80) _ h)) (true-of (isMark mark) (two-left (isMark mark) _ rest)) (composite unicode16 k mark) refl
     (two-right (isMark mark) _ rest))
 
 -- nothing is said
@@ -170,7 +170,7 @@ joined-not x mark =
     record { letter = λ z. absurd (let q : ⊥ = omega arith in q); tone = λ z. absurd (let q : ⊥ = omega arith in q); apart = λ z. absurd (let q : ⊥ = omega arith in q); one = λ z. absurd (let q : ⊥ = omega arith in q); small = λ z. absurd (let q : ⊥ = omega arith in q) }
 
 -- no letter has a composite with 030D
-pub joined_line : (x : ℕ) → x < 0x80 → Joined x 0x030D 1
+pub joined-line : (x : ℕ) → x < 0x80 → Joined x 0x030D 1
 unfolding listed
-joined_line x low =
+joined-line x low =
     record { letter = λ z. low; tone = λ z. refl; apart = λ z. no-composite x 0x030D refl; one = λ z. absurd (let q : ⊥ = omega arith in q); small = λ z. absurd (let q : ⊥ = omega arith in q) }

@@ -47,9 +47,9 @@ module _ (s : List ℕ) (n k mark c : ℕ) (h : k < n) (room : n < length s) (se
   pub joined-text : 1 < c → take (n - 0) (set s k c) ≡ encoded unicode16 (withMark s n (k + 1) mark)
   joined-text one =
       let low : get_or (take n s) k 0 < 0xC0 = rw same (omega (arith, j.letter (omega arith))) in
-      let set_is : take n (set s k c) ≡ take k (take n s) ++ (c ∷ drop (k + 1) (take n s)) = take-set-lt n s k c h ∙ rw (add-one k) (set_split (take n s) k c within) in
+      let set-is : take n (set s k c) ≡ take k (take n s) ++ (c ∷ drop (k + 1) (take n s)) = take-set-lt n s k c h ∙ rw (add-one k) (set_split (take n s) k c within) in
       ap (λ (m : ℕ). take m (set s k c)) (sub-zero n)
-      ∙ set_is
+      ∙ set-is
       ∙ sym (marked-one (take n s) k mark settled within low (listed-mark mark (j.tone (omega arith))) c (rw same (j.one one)) (j.small one).1)
 
   -- 030D stays behind it

@@ -10,7 +10,7 @@ use native.Mathlib.Omega.{arith}
 use lib.ListN.{length, take, drop, get_or, drop_of_length-le}
 use lib.Seq.{split_at, take-suc, append_snoc}
 use Rattle.ji.specs.Unicode.{unicode16, composite}
-use Rattle.ji.proofs.Bools.{and_yes}
+use Rattle.ji.proofs.Bools.{and-yes}
 use Rattle.ji.proofs.text.Laws.{drop-next}
 use Rattle.khiin.specs.Syllable.{encoded}
 use Rattle.khiin.specs.Compose.{staysBehind, settledFrom}
@@ -19,7 +19,7 @@ use Rattle.khiin.proofs.syllable.marking.Settled.{IsMark, Fits, encoded-one, enc
 -- ── the walk that tells whether a text is settled
 pub settled-step : (before : ℕ) (s : List ℕ) (i : ℕ) → i < length s → staysBehind before (get_or s i 0) ≡ true → settledFrom before (drop i s) ≡ settledFrom (get_or s i 0) (drop (i + 1) s)
 unfolding settledFrom
-settled-step before s i h e = ap (settledFrom before) (drop-next s i h) ∙ and_yes _ _ e
+settled-step before s i h e = ap (settledFrom before) (drop-next s i h) ∙ and-yes _ _ e
 
 pub settled-end : (before : ℕ) (s : List ℕ) (i : ℕ) → length s ≤ i → settledFrom before (drop i s) ≡ true
 unfolding settledFrom

@@ -18,7 +18,7 @@ use Rattle.ji.specs.Nfc.{pickDone, behind, under, reversed, absorb, composeFrom,
 use Rattle.ji.specs.Nfc.{compose as composition}
 use Rattle.ji.specs.declared.tone.Tone.{Tone}
 use Rattle.ji.specs.declared.tone.Tone.TheVariants.{None, T1, T2, T3, T4, T5, T6, T7, T8, T9}
-use Rattle.ji.proofs.Bools.{either, false-true, and_yes, and_no, and-false, and_left, and_right, or_yes, or_no}
+use Rattle.ji.proofs.Bools.{either, false-true, and-yes, and-no, and-false, and-left, and-right, or-yes, or-no}
 use Rattle.ji.proofs.text.Laws.{replace-nil, replace-hit, replace-miss}
 use Rattle.ji.proofs.Order.{exchanges-behind, ordered-fixed, order-only}
 use Rattle.ji.proofs.Composition.{reversed-at, reversed-reversed, compose-nil, compose-kept, compose-absorbed}
@@ -43,11 +43,11 @@ unfolding listed
 letter-o x e =
     either (eqb 0x6F x)
     (λ y. let z : 0x6F ≡ x = eqb-true 0x6F x y in (omega arith, rw (← z) (no-composite 0x6F 0x0324 refl)))
-    (λ n. let z : 0x4F ≡ x = eqb-true 0x4F x (one_left (eqb 0x4F x) (sym (or_no (eqb 0x6F x) (eqb 0x4F x || false) n) ∙ e)) in (omega arith, rw (← z) (no-composite 0x4F 0x0324 refl)))
+    (λ n. let z : 0x4F ≡ x = eqb-true 0x4F x (one-left (eqb 0x4F x) (sym (or-no (eqb 0x6F x) (eqb 0x4F x || false) n) ∙ e)) in (omega arith, rw (← z) (no-composite 0x4F 0x0324 refl)))
   where
-    one_left : (b : Bool) → (b || false) ≡ true → b ≡ true
-    one_left true e = refl
-    one_left false e = e
+    one-left : (b : Bool) → (b || false) ≡ true → b ≡ true
+    one-left true e = refl
+    one-left false e = e
 
 kind : (before x : ℕ) → staysBehind before x ≡ true → Kind before x
 unfolding listed
@@ -58,8 +58,8 @@ kind before x e =
     (λ l. either (eqb 0x1D3A x) (λ y. capital (sym (eqb-true 0x1D3A x y)))
     (λ k.
     let rest : (eqb x 0x0324 && listed (points "oO") before) ≡ true = rw (n, m, l, k) at e in
-    let o = letter-o before (and_right (eqb x 0x0324) (listed (points "oO") before) rest) in
-    dots (eqb-true x 0x0324 (and_left (eqb x 0x0324) (listed (points "oO") before) rest)) o.0 o.1))))
+    let o = letter-o before (and-right (eqb x 0x0324) (listed (points "oO") before) rest) in
+    dots (eqb-true x 0x0324 (and-left (eqb x 0x0324) (listed (points "oO") before) rest)) o.0 o.1))))
 
 -- it does not decompose, and is no 030D
 kind-full : {before x : ℕ} → Kind before x → full unicode16 (x ∷ []) ≡ x ∷ []
@@ -120,23 +120,23 @@ kind-absorb {before} (dots e h n) r = rw (e, absorb-starter 0x0324 before r (low
 module _ (b x : ℕ) (s : List ℕ) (h : settledFrom b (x ∷ s) ≡ true) where
   settled-kind : Kind b x
   unfolding settledFrom
-  settled-kind = kind b x (and_left (staysBehind b x) (settledFrom x s) h)
+  settled-kind = kind b x (and-left (staysBehind b x) (settledFrom x s) h)
 
   settled-rest : settledFrom x s ≡ true
   unfolding settledFrom
-  settled-rest = and_right (staysBehind b x) (settledFrom x s) h
+  settled-rest = and-right (staysBehind b x) (settledFrom x s) h
 
 settled-left : (b : ℕ) (s u : List ℕ) → settledFrom b (s ++ u) ≡ true → settledFrom b s ≡ true
 unfolding settledFrom
 settled-left b [] u h = refl
 settled-left b (x ∷ s) u h =
-    and_yes (staysBehind b x) (settledFrom x s) (and_left (staysBehind b x) (settledFrom x (s ++ u)) h)
-    ∙ settled-left x s u (and_right (staysBehind b x) (settledFrom x (s ++ u)) h)
+    and-yes (staysBehind b x) (settledFrom x s) (and-left (staysBehind b x) (settledFrom x (s ++ u)) h)
+    ∙ settled-left x s u (and-right (staysBehind b x) (settledFrom x (s ++ u)) h)
 
 settled-right : (b : ℕ) (s : List ℕ) (x : ℕ) (u : List ℕ) → settledFrom b (s ++ (x ∷ u)) ≡ true → settledFrom x u ≡ true
 unfolding settledFrom
-settled-right b [] x u h = and_right (staysBehind b x) (settledFrom x u) h
-settled-right b (y ∷ s) x u h = settled-right y s x u (and_right (staysBehind b y) (settledFrom y (s ++ (x ∷ u))) h)
+settled-right b [] x u h = and-right (staysBehind b x) (settledFrom x u) h
+settled-right b (y ∷ s) x u h = settled-right y s x u (and-right (staysBehind b y) (settledFrom y (s ++ (x ∷ u))) h)
 
 -- what is no 0324 may stand behind anything
 settled-behind : (b c x : ℕ) (s : List ℕ) → (x ≡ 0x0324 → ⊥) → settledFrom b (x ∷ s) ≡ true → settledFrom c (x ∷ s) ≡ true
@@ -195,7 +195,7 @@ swapped s = replaceAll (0x0324 ∷ 0x030D ∷ []) (0x030D ∷ 0x0324 ∷ []) s
 
 swap-other : (x : ℕ) (s : List ℕ) → (x ≡ 0x0324 → ⊥) → swapped (x ∷ s) ≡ x ∷ swapped s
 unfolding begins
-swap-other x s n = replace-miss _ _ x s (and_no _ _ (ne_eqb x 0x0324 n))
+swap-other x s n = replace-miss _ _ x s (and-no _ _ (ne_eqb x 0x0324 n))
 
 swap-before : (x y : ℕ) (s : List ℕ) → (y ≡ 0x030D → ⊥) → swapped (x ∷ y ∷ s) ≡ x ∷ swapped (y ∷ s)
 unfolding begins
@@ -336,9 +336,9 @@ module _ (a : List ℕ) (x : ℕ) (b : List ℕ) (h : settledFrom 0 (a ++ (x ∷
         ∙ back p
 
     -- they have none
-    other_none : composite unicode16 x m ≡ none → nfc unicode16 (a ++ (x ∷ m ∷ b)) ≡ a ++ (x ∷ m ∷ b)
+    other-none : composite unicode16 x m ≡ none → nfc unicode16 (a ++ (x ∷ m ∷ b)) ≡ a ++ (x ∷ m ∷ b)
     unfolding nfc composition behind reversed
-    other_none e =
+    other-none e =
         ap (λ (t : List ℕ). reversed (composeFrom unicode16 [] t)) marked-nfd
         ∙ ap reversed (to-letter (m ∷ b)
         ∙ compose-kept unicode16 m (x ∷ reversed a) b (mark-absorb ∙ ap (λ (o : Option ℕ). behind o (reversed a)) e)
@@ -405,7 +405,7 @@ module _ (a : List ℕ) (x : ℕ) (b : List ℕ) (h : settledFrom 0 (a ++ (x ∷
   swap-none : Fits → composite unicode16 x m ≡ none → Next x b → encoded unicode16 (a ++ (x ∷ m ∷ b)) ≡ a ++ (x ∷ m ∷ b)
   unfolding encoded
   swap-none f e (other k) =
-      ap swapped (other_none k e)
+      ap swapped (other-none k e)
       ∙ swap-front 0 a x (m ∷ b) front-settled (λ z. omega arith) (λ z. omega arith)
       ∙ ap (λ (t : List ℕ). a ++ (x ∷ t)) (swap-other m b mark.other ∙ ap (λ (t : List ℕ). m ∷ t) (swap-settled x b rest-settled))
   swap-none (inl f) e (two-dots s is k n) =
@@ -425,20 +425,6 @@ mark-at k class itself differs two m e =
 
 no-mark : (m : ℕ) → ◌≡◌ {A = List ℕ} [] (m ∷ []) → IsMark m
 no-mark m e = absurd (let z : ◌≡◌ {A = ℕ} 0 1 = cc in omega arith)
-
-pub tone-mark : (tone : Tone) (m : ℕ) → mark_of tone ≡ m ∷ [] → IsMark m
-unfolding mark_of combiningClass classIn classes16 unicode16 full passes pass decomposition mappingIn mappings16
-tone-mark None m e = no-mark m e
-tone-mark T1 m e = no-mark m e
-tone-mark T2 m e = mark-at 0x0301 refl refl (λ z. omega arith) (omega arith, omega arith) m e
-tone-mark T3 m e = mark-at 0x0300 refl refl (λ z. omega arith) (omega arith, omega arith) m e
-tone-mark T4 m e = no-mark m e
-tone-mark T5 m e = mark-at 0x0302 refl refl (λ z. omega arith) (omega arith, omega arith) m e
-tone-mark T6 m e = mark-at 0x0303 refl refl (λ z. omega arith) (omega arith, omega arith) m e
-tone-mark T7 m e = mark-at 0x0304 refl refl (λ z. omega arith) (omega arith, omega arith) m e
-tone-mark T8 m e = mark-at 0x030D refl refl (λ z. omega arith) (omega arith, omega arith) m e
-tone-mark T9 m e = mark-at 0x0306 refl refl (λ z. omega arith) (omega arith, omega arith) m e
-
 -- by the list of them
 pub listed-mark : (m : ℕ) → isMark m ≡ true → IsMark m
 unfolding combiningClass classIn classes16 unicode16 full passes pass decomposition mappingIn mappings16 listed

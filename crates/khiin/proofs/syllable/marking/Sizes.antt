@@ -16,7 +16,7 @@ use Rattle.ji.specs.declared.reply.TextAnswer.TheVariants.{Done, Refused}
 use Rattle.ji.specs.declared.unicode.ByteLen.{ByteLen}
 use Rattle.ji.proofs.Bools.{either}
 use Rattle.ji.proofs.Replies.{refusal-some}
-use Rattle.khiin.specs.Compose.{answer_of}
+use Rattle.khiin.specs.Compose.{answerOf}
 
 module _ (text before after : List ℕ) (a : TextAnswer) (e : textReply a after ≡ placed 0 text before) where
   -- the reply, where there is room and where there is none
@@ -34,19 +34,19 @@ module _ (text before after : List ℕ) (a : TextAnswer) (e : textReply a after 
         (λ y. let z : refusalNumber why ≡ 0 = ap (λ (r : Reply). r.code) (told ∙ room _ y) in absurd (omega (arith, z, refusal-some why)))
         (λ n. n)
 
-    pub no_change : after ≡ before
-    no_change = ap (λ (r : Reply). r.buffer) (told ∙ room _ short)
+    pub no-change : after ≡ before
+    no-change = ap (λ (r : Reply). r.buffer) (told ∙ room _ short)
 
-    pub no_room : textReply (answer_of 0) after ≡ placed 0 text before
-    no_room = ap (refused NoRoom) no_change ∙ sym (ap (λ (c : Bool). pickReply c (answered 0 text before) (refused NoRoom before)) short)
+    pub no-room : textReply (answerOf 0) after ≡ placed 0 text before
+    no-room = ap (refused NoRoom) no-change ∙ sym (ap (λ (c : Bool). pickReply c (answered 0 text before) (refused NoRoom before)) short)
 
   module _ (len : ByteLen) (k : a ≡ Done len) where
-    pub written : textReply (answer_of (len.0 + 1)) after ≡ placed 0 text before
-    written = ap (λ (x : TextAnswer). textReply x after) (ap answer_of (add-one len.0) ∙ sym k) ∙ e
+    pub written : textReply (answerOf (len.0 + 1)) after ≡ placed 0 text before
+    written = ap (λ (x : TextAnswer). textReply x after) (ap answerOf (add-one len.0) ∙ sym k) ∙ e
 
     -- a text that was written is no longer than the buffer
-    pub no_longer : len.0 ≤ length before
-    no_longer =
+    pub no-longer : len.0 ≤ length before
+    no-longer =
         let told : textReply (Done len) after ≡ textReply a after = ap (λ (x : TextAnswer). textReply x after) (sym k) in
         either (leb (length text) (length before))
         (λ y. let z : len.0 ≡ length text = ap (λ (r : Reply). r.length) (told ∙ room _ y) in omega (arith, z, leb-true (length text) (length before) y))

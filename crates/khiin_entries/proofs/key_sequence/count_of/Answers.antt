@@ -3,7 +3,7 @@ use mathlib.Core.Path.{◌≡◌, refl, sym, ap, ap₂, ◌∙◌}
 use Prim.Native.Nat.{suc, ◌*◌, ◌-◌, ◌≤◌}
 use native.Mathlib.Numerals.{add-one}
 use Rattle.khiin_entries.specs.Choices.{countIn}
-use Rattle.khiin_entries.proofs.key_sequence.Laying.{count_fits}
+use Rattle.khiin_entries.proofs.key_sequence.Laying.{count-fits}
 use Rattle.khiin_entries.proofs.key_sequence.Combining.{radix-most}
 use borrow.Author.Rules.{rules}
 use native.Mathlib.Omega.{arith}
@@ -15,7 +15,7 @@ overflow_cast-count c = omega (arith, radix-most _ (c.requires.1 c.loop-i.i (ome
 pub overflow_mul-count : goal.overflow_mul-count
 overflow_mul-count c =
     let l = c.loop-i in
-    let next : countIn c.args.radices.now (suc l.i) ≤ 4294967296 = count_fits _ (suc l.i) (omega arith) (λ i k. c.requires.1 i (omega arith)) in
+    let next : countIn c.args.radices.now (suc l.i) ≤ 4294967296 = count-fits _ (suc l.i) (omega arith) (λ i k. c.requires.1 i (omega arith)) in
     rw l.invariant.1 (record { fits = omega arith })
 
 pub loop-i-preserved : goal.loop-i-preserved

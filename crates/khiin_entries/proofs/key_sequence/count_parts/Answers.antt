@@ -8,59 +8,59 @@ use lib.Dec.{leb}
 use lib.ListN.{length, drop, length-drop}
 use lib.Seq.{drop-drop}
 use Rattle.ji.specs.Unicode.{pickNumber}
-use Rattle.ji.proofs.Bools.{and_yes, and_no, and-false}
+use Rattle.ji.proofs.Bools.{and-yes, and-no, and-false}
 use Rattle.khiin_entries.specs.KeySequence.{split}
-use Rattle.khiin_entries.specs.Choices.{firstPart, allShort, part_count}
+use Rattle.khiin_entries.specs.Choices.{firstPart, allShort, partCount}
 use Rattle.khiin_entries.proofs.key_sequence.Splitting.{split-first, passing-start, passing-more, passing-inside, passing-next}
 use native.Mathlib.Omega.{arith}
 use Rattle.khiin_entries.proofs.key_sequence.count_parts.Invariants.{Counted}
 use Rattle.khiin_entries.proofs.key_sequence.count_parts.Goals as goal
 
 module _ (s : List ℕ) where
-  count-as : (b : Bool) (n : ℕ) → (leb (length (split s)) 16 && allShort (split s)) ≡ b → pickNumber b (length (split s)) 0 ≡ n → n ≡ part_count s
-  unfolding part_count
+  count-as : (b : Bool) (n : ℕ) → (leb (length (split s)) 16 && allShort (split s)) ≡ b → pickNumber b (length (split s)) 0 ≡ n → n ≡ partCount s
+  unfolding partCount
   count-as b n e f = sym (ap (λ (x : Bool). pickNumber x (length (split s)) 0) e ∙ f)
 
-  counted_start : Counted s 0 0
-  counted_start = record { few = omega arith; some = omega arith; passing = passing-start s; short = refl }
+  counted-start : Counted s 0 0
+  counted-start = record { few = omega arith; some = omega arith; passing = passing-start s; short = refl }
 
   module _ (n at : ℕ) (c : Counted s n at) where
-    counted-end : length s < at → n ≡ part_count s
+    counted-end : length s < at → n ≡ partCount s
     counted-end h =
         let none = c.passing.over h in
         let all : length (split s) ≡ n = omega (arith, c.some, ap length none, length-drop n (split s)) in
         let few : n ≤ 16 = c.few in
         let most : length (split s) ≤ 16 = omega arith in
-        count-as true n (and_yes _ _ (le-leb _ _ most) ∙ c.short ∙ ap allShort none) all
+        count-as true n (and-yes _ _ (le-leb _ _ most) ∙ c.short ∙ ap allShort none) all
 
     module _ (h : at ≤ length s) where
       abbrev part : List ℕ
       part = firstPart (drop at s)
 
-      counted-many : n ≡ 16 → 0 ≡ part_count s
+      counted-many : n ≡ 16 → 0 ≡ partCount s
       counted-many e =
           let many : 16 < length (split s) = omega (arith, passing-more c.passing h) in
-          count-as false 0 (and_no _ _ (lt-leb _ _ many)) refl
+          count-as false 0 (and-no _ _ (lt-leb _ _ many)) refl
 
       next-short : allShort (split s) ≡ (leb (length part) 256 && allShort (drop 1 (split (drop at s))))
       next-short = c.short ∙ ap allShort (c.passing.here h ∙ split-first (drop at s))
 
-      counted-long : 256 < length part → 0 ≡ part_count s
+      counted-long : 256 < length part → 0 ≡ partCount s
       counted-long l =
-          count-as false 0 (ap (λ (x : Bool). leb (length (split s)) 16 && x) (next-short ∙ and_no _ _ (lt-leb _ _ l)) ∙ and-false (leb (length (split s)) 16)) refl
+          count-as false 0 (ap (λ (x : Bool). leb (length (split s)) 16 && x) (next-short ∙ and-no _ _ (lt-leb _ _ l)) ∙ and-false (leb (length (split s)) 16)) refl
 
-      counted_next : (end : ℕ) → end ≡ at + length part → length part ≤ 256 → (n ≡ 16 → ⊥) → Counted s (n + 1) (end + 1)
-      counted_next end e l ne =
+      counted-next : (end : ℕ) → end ≡ at + length part → length part ≤ 256 → (n ≡ 16 → ⊥) → Counted s (n + 1) (end + 1)
+      counted-next end e l ne =
           let few : n ≤ 16 = c.few in
           record {
             few = omega arith;
             some = omega (arith, passing-more c.passing h);
             passing = passing-next c.passing h end e;
-            short = next-short ∙ and_yes _ _ (le-leb _ _ l) ∙ ap (λ (ps : List (List ℕ)). allShort (drop 1 ps)) (sym (c.passing.here h)) ∙ ap allShort (drop-drop 1 n (split s));
+            short = next-short ∙ and-yes _ _ (le-leb _ _ l) ∙ ap (λ (ps : List (List ℕ)). allShort (drop 1 ps)) (sym (c.passing.here h)) ∙ ap allShort (drop-drop 1 n (split s));
           }
 
 pub loop-at-init : goal.loop-at-init
-loop-at-init c = (omega arith, counted_start _)
+loop-at-init c = (omega arith, counted-start _)
 
 pub overflow_sub-end : goal.overflow_sub-end
 overflow_sub-end c = omega (arith, c.part_end-end.ensures)
@@ -88,7 +88,7 @@ pub loop-at-preserved : goal.loop-at-preserved
 loop-at-preserved c =
     let e = c.part_end-end.ensures in (
       omega (arith, passing-inside c.loop-at.invariant.1.passing (omega arith) _ e),
-      counted_next c.args.entry.now _ _ c.loop-at.invariant.1 (omega arith) _ e (omega (arith, e)) c.if-n-eq16.false,
+      counted-next c.args.entry.now _ _ c.loop-at.invariant.1 (omega arith) _ e (omega (arith, e)) c.if-n-eq16.false,
     )
 
 pub returns : goal.returns

@@ -10,8 +10,8 @@ module _ (position radix : ℕ) where
   divided : (n : ℕ) → radix ≡ n → (position % n ≡ position % radix) × (position / n ≡ position / radix)
   divided n e = (ap (λ (k : ℕ). position % k) (sym e), ap (λ (k : ℕ). position / k) (sym e))
 
-  by_one : radix ≡ 1 → (0 ≡ position % radix) × (position ≡ position / radix)
-  by_one e = (sym (mod-one position) ∙ (divided 1 e).0, sym (div-one position) ∙ (divided 1 e).1)
+  by-one : radix ≡ 1 → (0 ≡ position % radix) × (position ≡ position / radix)
+  by-one e = (sym (mod-one position) ∙ (divided 1 e).0, sym (div-one position) ∙ (divided 1 e).1)
 
   only-four : Radix radix → (radix ≡ 1 → ⊥) → (radix ≡ 2 → ⊥) → radix ≡ 4
   only-four (inl e) f g = absurd (f e)
@@ -19,7 +19,7 @@ module _ (position radix : ℕ) where
   only-four (inr (inr e)) f g = e
 
 pub returns-then-radix-eq1 : goal.returns-then-radix-eq1
-returns-then-radix-eq1 c = by_one _ _ c.if-radix-eq1.true
+returns-then-radix-eq1 c = by-one _ _ c.if-radix-eq1.true
 
 pub returns-then-radix-eq2 : goal.returns-then-radix-eq2
 returns-then-radix-eq2 c = divided _ _ 2 c.if-radix-eq2.true

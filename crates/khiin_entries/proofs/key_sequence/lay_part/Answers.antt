@@ -11,7 +11,7 @@ use Rattle.ji.specs.declared.lomaji.keys.Kind.{Kind}
 use Rattle.ji.specs.declared.lomaji.keys.Kind.TheVariants.{Detoned}
 use Rattle.ji.proofs.lomaji.keys.Bytes.{addedKey}
 use Rattle.ji.specs.Lomaji.Dot.{dotIn}
-use Rattle.khiin_entries.specs.Choices.{points_of, formBytes, isToned, rowOne, rowTwo, rowOneToned, rowTwoToned, RowOf}
+use Rattle.khiin_entries.specs.Choices.{pointsOf, formBytes, isToned, rowOne, rowTwo, rowOneToned, rowTwoToned, RowOf}
 use Rattle.khiin_entries.specs.declared.key_sequence.Row.{Row}
 use Rattle.khiin_entries.proofs.key_sequence.Forms.{form-toned, several-detoned, several-toned}
 use Rattle.khiin_entries.proofs.key_sequence.Rows.{one-row, one-toned-row, two-row, two-toned-row, first-room, OnePut, one-stands, one-front, one-short, TwoPut, two-first, two-second, two-front, two-short}
@@ -44,7 +44,7 @@ module _ (f : After-put_form-mid) where
 
   -- a toned form has a last byte
   longer : (x : Form) → isToned kind ≡ true → 0 < length (form x kind)
-  longer x e = omega (arith, ap length (form-toned part f.requires.0 x kind e), length-append (form x Detoned) (addedKey unicode16 kind (points_of part) ∷ []))
+  longer x e = omega (arith, ap length (form-toned part f.requires.0 x kind e), length-append (form x Detoned) (addedKey unicode16 kind (pointsOf part) ∷ []))
 
   -- the plain form is put
   plain : OnePut kind part before at mid middle
@@ -58,7 +58,7 @@ module _ (f : After-put_form-mid) where
   one-toned : (row : Row) → row ≡ rowOneToned at mid → dotIn part ≡ false → isToned kind ≡ true → RowOf unicode16 false kind part at before middle row
   one-toned row e dot toned =
       subst (λ (r : Row). RowOf unicode16 false kind part at before middle r) (sym e)
-      (one-toned-row false kind part before middle at (one-front _ _ _ _ plain) (form Plain kind) (one-stands _ _ _ _ plain) mid plain.ends (form Plain Detoned) (addedKey unicode16 kind (points_of part)) (form-toned part f.requires.0 Plain kind toned) (several-toned part f.requires.0 kind toned false dot) (one-short _ _ _ _ plain).0)
+      (one-toned-row false kind part before middle at (one-front _ _ _ _ plain) (form Plain kind) (one-stands _ _ _ _ plain) mid plain.ends (form Plain Detoned) (addedKey unicode16 kind (pointsOf part)) (form-toned part f.requires.0 Plain kind toned) (several-toned part f.requires.0 kind toned false dot) (one-short _ _ _ _ plain).0)
 
 -- the other form is put behind it
 both : (b : After-put_form-end) → TwoPut b.args.kind b.args.part.now b.args.forms.now b.args.at b.put_form-mid.result b.put_form-end.result b.put_form-end.new.forms
@@ -80,7 +80,7 @@ module _ (f : After-put_form-mid) {end : ℕ} {after : List ℕ} (both : TwoPut 
   two-toned row e dot toned =
       subst (λ (r : Row). RowOf unicode16 false (kind f) (part f) (at f) (before f) after r) (sym e)
       (two-toned-row false (kind f) (part f) (before f) after (at f) (two-front _ _ _ _ both) (form f Plain (kind f)) (two-first _ _ _ _ both) (mid f) (plain f).ends (form f Oo (kind f)) (two-second _ _ _ _ both) end both.ends
-      (form f Plain Detoned) (form f Oo Detoned) (addedKey unicode16 (kind f) (points_of (part f))) (form-toned (part f) f.requires.0 Plain (kind f) toned) (form-toned (part f) f.requires.0 Oo (kind f) toned) (several-toned (part f) f.requires.0 (kind f) toned true dot) (two-short _ _ _ _ both).1)
+      (form f Plain Detoned) (form f Oo Detoned) (addedKey unicode16 (kind f) (pointsOf (part f))) (form-toned (part f) f.requires.0 Plain (kind f) toned) (form-toned (part f) f.requires.0 Oo (kind f) toned) (several-toned (part f) f.requires.0 (kind f) toned true dot) (two-short _ _ _ _ both).1)
 
 pub put_form-mid-requires : goal.put_form-mid-requires
 put_form-mid-requires c = (c.requires.0, first-room c.args.kind c.args.part.now c.args.forms.now c.args.at c.requires)

@@ -1,7 +1,7 @@
 use mathlib.Core.Path.{◌≡◌}
 use Prim.Native.Nat.{◌-◌}
 use Rattle.khiin_entries.specs.Choices.{lengthIn}
-use Rattle.khiin_entries.proofs.key_sequence.Laying.{digit-small, length-turn, length_none}
+use Rattle.khiin_entries.proofs.key_sequence.Laying.{digit-small, length-turn, length-none}
 use native.Mathlib.Omega.{arith}
 use Rattle.khiin_entries.proofs.key_sequence.length_at.Goals as goal
 
@@ -27,5 +27,5 @@ pub returns : goal.returns
 returns c =
     let a = c.args in
     let z : c.loop-i.i ≡ 0 = omega arith in
-    let e : lengthIn a.lengths.now a.radices.now c.loop-i.i c.loop-i.left ≡ 0 = rw z (length_none a.lengths.now a.radices.now c.loop-i.left) in
+    let e : lengthIn a.lengths.now a.radices.now c.loop-i.i c.loop-i.left ≡ 0 = rw z (length-none a.lengths.now a.radices.now c.loop-i.left) in
     omega (arith, e, c.loop-i.invariant.1)

@@ -6,7 +6,7 @@ use lib.ListN.{length}
 use lib.Seq.{paste}
 use Rattle.khiin_entries.specs.Choices.{countIn, lengthIn, keyingIn}
 use Rattle.khiin_entries.proofs.key_sequence.Laying.{keying-length}
-use Rattle.khiin_entries.proofs.key_sequence.Calling.{laid-position, laid-no-room, laid_done}
+use Rattle.khiin_entries.proofs.key_sequence.Calling.{laid-position, laid-no-room, laid-done}
 use native.Mathlib.Omega.{arith}
 use Rattle.khiin_entries.proofs.key_sequence.place.Goals as goal
 use Rattle.khiin_entries.proofs.key_sequence.place.Goals.{Start}
@@ -42,5 +42,5 @@ returns c =
     let n = c.length_at-n.ensures in
     let e = c.count_of-count.ensures in
     rw e
-    (laid_done (countIn c.args.radices c.args.parts) (output (goal.at.returns c).Start) c.args.position c.args.out.now (omega (arith, e)) c.length_at-n.result _ (output-length (goal.at.returns c).Start ∙ sym n) (omega arith)
+    (laid-done (countIn c.args.radices c.args.parts) (output (goal.at.returns c).Start) c.args.position c.args.out.now (omega (arith, e)) c.length_at-n.result _ (output-length (goal.at.returns c).Start ∙ sym n) (omega arith)
     (c.write_at.ensures ∙ ap (λ (m : ℕ). paste c.args.out.now (c.length_at-n.result - m) (output (goal.at.returns c).Start) m) (sym n)))

@@ -26,24 +26,24 @@ module _ (forms : List ℕ) (offsets lengths : List (List ℕ)) (radices : List 
   abbrev piece : List ℕ
   piece = take (from + n - from) (drop from forms)
 
-  piece_is : piece ≡ choiceAt forms (get_or offsets (i - 1) []) (get_or lengths (i - 1) []) value
-  piece_is = ap (λ (k : ℕ). take k (drop from forms)) (add-sub_cancel_left from n)
+  piece-is : piece ≡ choiceAt forms (get_or offsets (i - 1) []) (get_or lengths (i - 1) []) value
+  piece-is = ap (λ (k : ℕ). take k (drop from forms)) (add-sub_cancel_left from n)
 
   piece-length : length piece ≡ n
   piece-length =
-      ap length piece_is
+      ap length piece-is
       ∙ choice-length offsets lengths radices (length forms) forms (omega arith) (get_or offsets (i - 1) []) (get_or lengths (i - 1) []) (get_or radices (i - 1) 0) value (laid (i - 1) (omega arith)) (digit-below left (get_or radices (i - 1) 0) value (laid (i - 1) (omega arith)).few digit)
 
-  goes_in : lengthIn lengths radices (i - 1) rest + n ≤ at
-  goes_in = omega (arith, length-turn lengths radices i left value rest some digit divided)
+  goes-in : lengthIn lengths radices (i - 1) rest + n ≤ at
+  goes-in = omega (arith, length-turn lengths radices i left value rest some digit divided)
 
   module _ (h : Backward before after (keyingIn forms offsets lengths radices parts position) (keyingIn forms offsets lengths radices i left) at end) (room : end ≤ length before) where
     turned : (after' : List ℕ) → after' ≡ paste after (at - n) piece (length piece) → Backward before after' (keyingIn forms offsets lengths radices parts position) (keyingIn forms offsets lengths radices (i - 1) rest) (at - n) end
     turned after' e =
         rw e
         (backward-step h room (keyingIn forms offsets lengths radices (i - 1) rest) piece (at - n)
-        (keying-turn offsets lengths radices (length forms) forms i left value rest some digit divided ∙ ap (λ (l : List ℕ). keyingIn forms offsets lengths radices (i - 1) rest ++ l) (sym piece_is))
-        (omega (arith, piece-length, goes_in)))
+        (keying-turn offsets lengths radices (length forms) forms i left value rest some digit divided ∙ ap (λ (l : List ℕ). keyingIn forms offsets lengths radices (i - 1) rest ++ l) (sym piece-is))
+        (omega (arith, piece-length, goes-in)))
 
 pub loop-i-init : goal.loop-i-init
 loop-i-init c = (omega arith, search rules, backward-start _ _ _)
@@ -89,7 +89,7 @@ overflow_add-to c =
 pub overflow_sub-at : goal.overflow_sub-at
 overflow_sub-at c =
     let d = c.digit_of-digit.ensures in
-    omega (arith, goes_in c.args.forms.now c.args.offsets.now c.args.lengths.now c.args.radices.now c.args.parts c.args.position c.args.end c.args.out.now c.loop-i.out c.loop-i.i c.loop-i.left c.loop-i.at _ _ c.requires.1 (omega arith) (omega arith) c.loop-i.invariant.1 d.0 d.1)
+    omega (arith, goes-in c.args.forms.now c.args.offsets.now c.args.lengths.now c.args.radices.now c.args.parts c.args.position c.args.end c.args.out.now c.loop-i.out c.loop-i.i c.loop-i.left c.loop-i.at _ _ c.requires.1 (omega arith) (omega arith) c.loop-i.invariant.1 d.0 d.1)
 
 pub slice_bounds-put-end : goal.slice_bounds-put-end
 slice_bounds-put-end c =
@@ -99,12 +99,12 @@ slice_bounds-put-end c =
 pub put-requires : goal.put-requires
 put-requires c =
     let d = c.digit_of-digit.ensures in
-    omega (arith, piece-length c.args.forms.now c.args.offsets.now c.args.lengths.now c.args.radices.now c.args.parts c.args.position c.args.end c.args.out.now c.loop-i.out c.loop-i.i c.loop-i.left c.loop-i.at _ _ c.requires.1 (omega arith) (omega arith) c.loop-i.invariant.1 d.0 d.1, goes_in c.args.forms.now c.args.offsets.now c.args.lengths.now c.args.radices.now c.args.parts c.args.position c.args.end c.args.out.now c.loop-i.out c.loop-i.i c.loop-i.left c.loop-i.at _ _ c.requires.1 (omega arith) (omega arith) c.loop-i.invariant.1 d.0 d.1, c.loop-i.invariant.2.sized, backward-length c.loop-i.invariant.2 c.requires.3)
+    omega (arith, piece-length c.args.forms.now c.args.offsets.now c.args.lengths.now c.args.radices.now c.args.parts c.args.position c.args.end c.args.out.now c.loop-i.out c.loop-i.i c.loop-i.left c.loop-i.at _ _ c.requires.1 (omega arith) (omega arith) c.loop-i.invariant.1 d.0 d.1, goes-in c.args.forms.now c.args.offsets.now c.args.lengths.now c.args.radices.now c.args.parts c.args.position c.args.end c.args.out.now c.loop-i.out c.loop-i.i c.loop-i.left c.loop-i.at _ _ c.requires.1 (omega arith) (omega arith) c.loop-i.invariant.1 d.0 d.1, c.loop-i.invariant.2.sized, backward-length c.loop-i.invariant.2 c.requires.3)
 
 pub loop-i-preserved : goal.loop-i-preserved
 loop-i-preserved c =
     let d = c.digit_of-digit.ensures in
-    (omega arith, omega (arith, goes_in c.args.forms.now c.args.offsets.now c.args.lengths.now c.args.radices.now c.args.parts c.args.position c.args.end c.args.out.now c.loop-i.out c.loop-i.i c.loop-i.left c.loop-i.at _ _ c.requires.1 (omega arith) (omega arith) c.loop-i.invariant.1 d.0 d.1), turned c.args.forms.now c.args.offsets.now c.args.lengths.now c.args.radices.now c.args.parts c.args.position c.args.end c.args.out.now c.loop-i.out c.loop-i.i c.loop-i.left c.loop-i.at _ _ c.requires.1 (omega arith) (omega arith) c.loop-i.invariant.1 d.0 d.1 c.loop-i.invariant.2 c.requires.3 c.put.new.out c.put.ensures)
+    (omega arith, omega (arith, goes-in c.args.forms.now c.args.offsets.now c.args.lengths.now c.args.radices.now c.args.parts c.args.position c.args.end c.args.out.now c.loop-i.out c.loop-i.i c.loop-i.left c.loop-i.at _ _ c.requires.1 (omega arith) (omega arith) c.loop-i.invariant.1 d.0 d.1), turned c.args.forms.now c.args.offsets.now c.args.lengths.now c.args.radices.now c.args.parts c.args.position c.args.end c.args.out.now c.loop-i.out c.loop-i.i c.loop-i.left c.loop-i.at _ _ c.requires.1 (omega arith) (omega arith) c.loop-i.invariant.1 d.0 d.1 c.loop-i.invariant.2 c.requires.3 c.put.new.out c.put.ensures)
 
 pub returns : goal.returns
 returns c =

@@ -27,9 +27,9 @@ module _ (s : List ℕ) (n at : ℕ) (h : Dotting s n at) where
   unfolding dottedIn
   dotting-end k = sym (add-zero n) ∙ ap (λ (ps : List (List ℕ)). n + dottedIn ps) (sym (h.passing.over k)) ∙ h.sum
 
-  at_most_one : (b : Bool) → pickNumber b 1 0 ≤ 1
-  at_most_one true = omega arith
-  at_most_one false = omega arith
+  at-most-one : (b : Bool) → pickNumber b 1 0 ≤ 1
+  at-most-one true = omega arith
+  at-most-one false = omega arith
 
   dotting-next : at ≤ length s → (end one : ℕ) (dot : Bool) → end ≡ at + length (firstPart (drop at s)) → dot ≡ dotIn (take (end - at) (drop at s)) → one ≡ pickNumber dot 1 0 → Dotting s (n + one) (end + 1)
   unfolding dottedIn
@@ -41,7 +41,7 @@ module _ (s : List ℕ) (n at : ℕ) (h : Dotting s n at) where
       record {
         passed = i + 1;
         passing = passing-next h.passing inside end e;
-        few = (omega (arith, h.few, at_most_one dot), omega (arith, h.few));
+        few = (omega (arith, h.few, at-most-one dot), omega (arith, h.few));
         sum = omega (arith, h.sum);
       }
 
@@ -54,7 +54,7 @@ slice_bounds-holds_dot-end c =
 
 pub overflow_add-n : goal.overflow_add-n
 overflow_add-n c =
-    omega (arith, c.loop-at.invariant.1.few, c.loop-at.invariant.0, c.one_if-n.ensures, at_most_one c.args.entry.now _ _ c.loop-at.invariant.1 c.holds_dot.result, c.requires)
+    omega (arith, c.loop-at.invariant.1.few, c.loop-at.invariant.0, c.one_if-n.ensures, at-most-one c.args.entry.now _ _ c.loop-at.invariant.1 c.holds_dot.result, c.requires)
 
 pub overflow_add-at : goal.overflow_add-at
 overflow_add-at c =

@@ -8,7 +8,7 @@ use lib.Seq.{paste}
 use Rattle.ji.proofs.Writing.{stores-1}
 use Rattle.khiin_entries.specs.Listing.{lastDigits}
 use Rattle.khiin_entries.proofs.key_sequence.Backward.{Backward, backward-start, backward-step, backward-length, backward-end}
-use Rattle.khiin_entries.proofs.listing.Decimal.{last-length, decimal-length, decimal-is, last_turn}
+use Rattle.khiin_entries.proofs.listing.Decimal.{last-length, decimal-length, decimal-is, last-turn}
 use native.Mathlib.Omega.{arith}
 use Rattle.khiin_entries.proofs.listing.put_decimal.Goals as goal
 
@@ -17,7 +17,7 @@ module _ {before after whole : List ℕ} {end : ℕ} (room : end ≤ length befo
   one-digit : Backward before after whole (lastDigits (i - at) left) i end → Backward before (set after (i - 1) (48 + left % 10)) whole (lastDigits (i - 1 - at) (left / 10)) (i - 1) end
   one-digit h =
       let z : i - at - 1 ≡ i - 1 - at = omega arith in
-      let e = last_turn (i - at) left (omega arith) ∙ ap (λ (k : ℕ). lastDigits k (left / 10) ++ ((48 + left % 10) ∷ [])) z in
+      let e = last-turn (i - at) left (omega arith) ∙ ap (λ (k : ℕ). lastDigits k (left / 10) ++ ((48 + left % 10) ∷ [])) z in
       rw (stores-1 after (i - 1) (48 + left % 10) (omega (arith, backward-length h room)))
       (backward-step h room (lastDigits (i - 1 - at) (left / 10)) ((48 + left % 10) ∷ []) (i - 1) e (omega arith))
 

@@ -3,7 +3,7 @@ use Prim.Native.Nat.{◌-◌}
 use Prim.Native.Nat.{◌*◌, ◌≤◌}
 use native.Mathlib.Nat.{mul-le-mul}
 use lib.ListN.{length}
-use Rattle.khiin_entries.proofs.key_sequence.Laying.{length_most}
+use Rattle.khiin_entries.proofs.key_sequence.Laying.{length-most}
 use Rattle.khiin_entries.proofs.listing.Putting.{put-length, showing-start, showing-next, showing-over, showing-all}
 use Rattle.khiin_entries.proofs.listing.Texts.{lines-length, lines-line, line-length}
 use native.Mathlib.Omega.{arith}
@@ -14,7 +14,7 @@ use Rattle.khiin_entries.proofs.listing.put_lines.Goals.{After-length_at-n}
 few : (t : After-length_at-n) → t.length_at-n.result ≤ 16 * 65535
 few t =
     let s = t.before.before.before.before.before.before in
-    omega (arith, t.length_at-n.ensures, length_most s.args.offsets.now s.args.lengths.now s.args.radices.now (length s.args.forms.now) s.args.parts t.loop-i.i s.requires.1, mul-le-mul s.requires.0 s.requires.2)
+    omega (arith, t.length_at-n.ensures, length-most s.args.offsets.now s.args.lengths.now s.args.radices.now (length s.args.forms.now) s.args.parts t.loop-i.i s.requires.1, mul-le-mul s.requires.0 s.requires.2)
 
 pub loop-i-init : goal.loop-i-init
 loop-i-init c = showing-start _ c.args.from c.args.at c.args.out.now c.requires.3

@@ -3,7 +3,7 @@ use mathlib.Core.List.{[]}
 use Rattle.ji.specs.Unicode.{unicode16}
 use Rattle.ji.specs.declared.reply.Refusal.TheVariants.{TooLong}
 use Rattle.ji.proofs.Replies.{check-long}
-use Rattle.ji.proofs.unicode.Ascii.{ascii_take}
+use Rattle.ji.proofs.unicode.Ascii.{ascii-take}
 use Rattle.khiin_records.specs.Syllable.{recordReply}
 use Rattle.khiin_records.specs.declared.Recorded.{Recorded}
 use Rattle.khiin_records.proofs.Candidates.{empty-good}
@@ -12,7 +12,7 @@ use Rattle.khiin_records.proofs.alignment.align.Goals as goal
 
 pub returns-then-target-eq0 : goal.returns-then-target-eq0
 returns-then-target-eq0 c =
-    c.place_keys.ensures (ascii_take 0 c.args.keys.now c.requires)
+    c.place_keys.ensures (ascii-take 0 c.args.keys.now c.requires)
     ∙ align-target-good unicode16 c.args.keys.now c.args.target.now c.args.out.now 0 [] (empty-good c.args.target.now c.if-target-eq0.true)
     (sym (aligned-nothing unicode16 c.args.keys.now))
 

@@ -12,7 +12,7 @@ use Rattle.ji.specs.declared.lomaji.strip.Strip.TheVariants.{Done}
 use Rattle.ji.specs.declared.lomaji.strip.StripResult.{StripResult}
 use Rattle.ji.proofs.Writing.{written-length}
 use Rattle.ji.proofs.Readings.{front}
-use Rattle.ji.proofs.unicode.Ascii.{ascii_take}
+use Rattle.ji.proofs.unicode.Ascii.{ascii-take}
 use Rattle.ji.proofs.lomaji.strip.Answers.{Stripping, strip-done, strip-not}
 use Rattle.ji.proofs.unicode.Checked.{text-passed}
 use Rattle.khiin_records.specs.Syllable.{candidatesOf}
@@ -61,7 +61,7 @@ returns-in-Done c =
     let u = h.points in
     let v = (strip unicode16 u).rest in
     let n = c.align_stripped-count in
-    c.place_keys.ensures (ascii_take (n.result - 0) keys c.requires.0)
+    c.place_keys.ensures (ascii-take (n.result - 0) keys c.requires.0)
     ∙ align-target-good unicode16 keys c.args.target.now c.args.out.now (n.result - 0) u h.good
     (sub-zero n.result
     ∙ n.ensures v (front h.written)

@@ -4,7 +4,7 @@ use Rattle.ji.specs.Written.{Written}
 use Rattle.ji.proofs.Writing.{written-length}
 use Rattle.ji.proofs.Readings.{front}
 use Rattle.khiin_records.specs.Syllable.{toneDigit, khinKey}
-use Rattle.khiin_records.specs.RawBytes.{body_of}
+use Rattle.khiin_records.specs.RawBytes.{bodyOf}
 use Rattle.khiin_records.specs.Alignment.{sharedPrefix}
 use Rattle.khiin_records.proofs.Prefixes.{raw-written}
 use native.Mathlib.Omega.{arith}
@@ -13,7 +13,7 @@ use Rattle.khiin_records.proofs.alignment.candidate_prefix.Goals.{After-put_keys
 
 -- the raw input was written
 module _ (c : After-put_keys-len) where
-  whole : Written c.args.letters.now c.put_keys-len.new.out c.put_keys-len.result ((body_of c.args.vowel c.args.s.now).text ++ (toneDigit c.args.tone ++ khinKey c.args.khin))
+  whole : Written c.args.letters.now c.put_keys-len.new.out c.put_keys-len.result ((bodyOf c.args.vowel c.args.s.now).text ++ (toneDigit c.args.tone ++ khinKey c.args.khin))
   whole =
       let w = c.spell-spelled in
       raw-written c.args.tone c.args.khin c.args.letters.now w.new.out c.put_keys-len.new.out w.result.len c.put_keys-len.result _

@@ -1,6 +1,6 @@
 use Prim.Native.Nat.{◌+◌}
 use Rattle.khiin_records.specs.Prefixes.{NearestPrefix}
-use Rattle.khiin_records.proofs.Prefixes.{prefix-fits, near_within, near-through}
+use Rattle.khiin_records.proofs.Prefixes.{prefix-fits, near-within, near-through}
 use native.Mathlib.Omega.{arith}
 use Rattle.khiin_records.proofs.alignment.plain_prefix.Goals as goal
 use Rattle.khiin_records.proofs.alignment.plain_prefix.Goals.{After-digits_prefix}
@@ -14,7 +14,7 @@ through c =
 
 pub returns-then-body-s : goal.returns-then-body-s
 returns-then-body-s c =
-    near_within c.args.s.now c.requires.2 c.args.keys.now c.args.tone c.args.khin c.requires.1 c.shared_prefix-body.result c.shared_prefix-body.ensures c.if-body-s.true
+    near-within c.args.s.now c.requires.2 c.args.keys.now c.args.tone c.args.khin c.requires.1 c.shared_prefix-body.result c.shared_prefix-body.ensures c.if-body-s.true
 
 pub digits_prefix-requires : goal.digits_prefix-requires
 digits_prefix-requires c = (c.requires.0, rw c.shared_prefix-body.ensures (prefix-fits _ _))

@@ -2,7 +2,7 @@ use mathlib.Core.Path.{sym, ap, ◌∙◌}
 use Prim.Native.Nat.{ℕ, ◌+◌}
 use lib.Dec.{eqb}
 use lib.ListN.{get_or}
-use Rattle.khiin_records.proofs.Prefixes.{no_key, key-is}
+use Rattle.khiin_records.proofs.Prefixes.{no-key, key-is}
 use native.Mathlib.Omega.{arith}
 use Rattle.khiin_records.proofs.alignment.tone_key_follows.Goals as goal
 
@@ -12,4 +12,4 @@ returns-then-prefix-keys c =
     ∙ sym (key-is c.args.keys.now (c.args.prefix + 1) c.args.tone c.requires.0 (omega arith))
 
 pub returns : goal.returns
-returns c = sym (no_key c.args.keys.now (c.args.prefix + 1) c.args.tone c.requires.0 (omega arith))
+returns c = sym (no-key c.args.keys.now (c.args.prefix + 1) c.args.tone c.requires.0 (omega arith))

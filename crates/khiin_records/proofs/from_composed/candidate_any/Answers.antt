@@ -15,9 +15,9 @@ none-given : (text : List ℕ) (position : ℕ) (buffer : List ℕ) → length t
 unfolding candidateCall fromComposed
 none-given text position buffer h = sym (ap (λ (k : Checked). candidateOf unicode16 k position buffer) (empty-good text h))
 
-too_long : (text : List ℕ) (position : ℕ) (buffer : List ℕ) → 256 < length text → refused TooLong buffer ≡ candidateCall unicode16 text position buffer
+too-long : (text : List ℕ) (position : ℕ) (buffer : List ℕ) → 256 < length text → refused TooLong buffer ≡ candidateCall unicode16 text position buffer
 unfolding candidateCall
-too_long text position buffer h = sym (ap (λ (k : Checked). candidateOf unicode16 k position buffer) (check-long unicode16 text h))
+too-long text position buffer h = sym (ap (λ (k : Checked). candidateOf unicode16 k position buffer) (check-long unicode16 text h))
 
 pub returns-then-text-eq0 : goal.returns-then-text-eq0
 returns-then-text-eq0 c = let a = c.args in c.default_at.ensures ∙ none-given a.text.now a.position a.out.now c.if-text-eq0.true
@@ -25,4 +25,4 @@ returns-then-text-eq0 c = let a = c.args in c.default_at.ensures ∙ none-given 
 pub returns : goal.returns
 returns c =
     let a = c.args in
-    too_long a.text.now a.position a.out.now (omega (arith, c.if-text-le256.false))
+    too-long a.text.now a.position a.out.now (omega (arith, c.if-text-le256.false))

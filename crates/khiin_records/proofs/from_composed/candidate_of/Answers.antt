@@ -17,7 +17,7 @@ use Rattle.ji.proofs.Readings.{front}
 use Rattle.ji.proofs.Points.{points-done, points-refused}
 use Rattle.ji.proofs.lomaji.khin.Laws.{after-khin-length, after-points, khin-points}
 use Rattle.khiin_records.specs.Syllable.{candidatesOf, candidateIn}
-use Rattle.ji.proofs.unicode.Checked.{bytes_good, good-same, good-not-bad}
+use Rattle.ji.proofs.unicode.Checked.{bytes-good, good-same, good-not-bad}
 use Rattle.khiin_records.proofs.Records.{members-behind}
 use native.Mathlib.Omega.{arith}
 use Rattle.khiin_records.proofs.from_composed.candidate_of.Goals as goal
@@ -35,7 +35,7 @@ module _ (c : After-points) where
   called = rw c.strip_khin-rest.ensures at c.points.ensures
 
   good-rest : (u : List ℕ) → members unicode16 u ≡ true → c.args.stripped.now ≡ encode u → checkPoints unicode16 (decode rest) ≡ good (withoutKhin u)
-  good-rest u m e = bytes_good rest (withoutKhin u) (members-behind u m) (ap afterKhin e ∙ after-points u)
+  good-rest u m e = bytes-good rest (withoutKhin u) (members-behind u m) (ap afterKhin e ∙ after-points u)
 
   read : (len : CharLen) → c.points.result ≡ Points len → (w : List ℕ) × (checkPoints unicode16 (decode rest) ≡ good w) × Written c.args.points.now c.points.new.out len.0 w
   read len is = points-done rest c.args.points.now c.points.new.out room called len is

@@ -1,11 +1,11 @@
 use Prim.Native.Nat.{◌-◌}
 use Rattle.ji.proofs.Writing.{written-length}
-use Rattle.khiin_records.proofs.Walking.{walk_start, walk-ascii}
+use Rattle.khiin_records.proofs.Walking.{walk-start, walk-ascii}
 use native.Mathlib.Omega.{arith}
 use Rattle.khiin_records.proofs.from_composed.copy_ascii.Goals as goal
 
 pub loop-i-init : goal.loop-i-init
-loop-i-init c = λ vowel. walk_start vowel c.args.s.now c.args.out.now
+loop-i-init c = λ vowel. walk-start vowel c.args.s.now c.args.out.now
 
 pub returns-then-b-ge128 : goal.returns-then-b-ge128
 returns-then-b-ge128 c = c.loop-i.invariant

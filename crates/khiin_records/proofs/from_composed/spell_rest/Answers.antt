@@ -4,10 +4,10 @@ use mathlib.Core.List.{List}
 use Prim.Native.Nat.{ℕ, ◌+◌, ◌-◌, ◌≤◌, ◌<◌}
 use lib.ListN.{length, drop, get_or, length-set}
 use Rattle.ji.specs.Text.{begins}
-use Rattle.ji.proofs.Bools.{and_left}
+use Rattle.ji.proofs.Bools.{and-left}
 use Rattle.ji.proofs.Writing.{written-length}
 use Rattle.khiin_records.specs.RawBytes.{takesBelow, dot, nasal, below, byteBefore, Walking}
-use Rattle.khiin_records.proofs.Walking.{begins-fits, before-some, below-some, walk-dot, walk-nasal, walk-below, walk-copy, walk_end}
+use Rattle.khiin_records.proofs.Walking.{begins-fits, before-some, below-some, walk-dot, walk-nasal, walk-below, walk-copy, walk-end}
 use native.Mathlib.Omega.{arith}
 use Rattle.khiin_records.proofs.from_composed.spell_rest.Goals as goal
 use Rattle.khiin_records.proofs.from_composed.spell_rest.Goals.{Else-is_nasal, In-loop-i, Then-is_below}
@@ -122,7 +122,7 @@ pub overflow_add-n-then-is_below : goal.overflow_add-n-then-is_below
 overflow_add-n-then-is_below c = omega (arith, room (goal.at.overflow_add-n-then-is_below c).In-loop-i 1 (omega arith))
 
 pub overflow_add-i-then-is_below : goal.overflow_add-i-then-is_below
-overflow_add-i-then-is_below c = omega (arith, begins-fits below c.args.s.now c.loop-i.i c.loop-i.invariant.1.inside (and_left _ _ (is-below-here (goal.at.overflow_add-i-then-is_below c).Then-is_below)))
+overflow_add-i-then-is_below c = omega (arith, begins-fits below c.args.s.now c.loop-i.i c.loop-i.invariant.1.inside (and-left _ _ (is-below-here (goal.at.overflow_add-i-then-is_below c).Then-is_below)))
 
 pub loop-i-smaller-then-is_below : goal.loop-i-smaller-then-is_below
 loop-i-smaller-then-is_below c = omega (arith, c.loop-i-test.true)
@@ -159,5 +159,5 @@ loop-i-preserved c =
 pub returns : goal.returns
 returns c =
     let l = c.loop-i in
-    let e = walk_end l.invariant.1 c.loop-i-test.false in
+    let e = walk-end l.invariant.1 c.loop-i-test.false in
     (l.invariant.0, e.0, omega (arith, l.invariant.1.shorter, l.invariant.1.inside), e.1)

@@ -11,7 +11,7 @@ use Rattle.ji.specs.declared.lomaji.khin.Khin.{Khin}
 use Rattle.ji.specs.declared.lomaji.khin.Khin.TheVariants.{No, Yes}
 use Rattle.ji.proofs.Writing.{written-length, written-run}
 use Rattle.khiin_records.specs.Syllable.{belowRules, signRules, toneDigit, khinKey}
-use Rattle.khiin_records.proofs.Spelling.{signs-growth, below_length}
+use Rattle.khiin_records.proofs.Spelling.{signs-growth, below-length}
 use native.Mathlib.Omega.{arith}
 use Rattle.khiin_records.proofs.from_composed.write_raw.Goals as goal
 use Rattle.khiin_records.proofs.from_composed.write_raw.Goals.{After-put_digit-m, After-spell_signs-n}
@@ -48,15 +48,15 @@ module _ (c : After-spell_signs-n) where
   few =
       let w = spelled in
       let p = c.requires in
-      omega (arith, w.size, signs-growth c.args.vowel p.0 (respell belowRules c.args.s.now), below_length c.args.s.now, p.1)
+      omega (arith, w.size, signs-growth c.args.vowel p.0 (respell belowRules c.args.s.now), below-length c.args.s.now, p.1)
 
-  digit_room : c.spell_signs-n.result + length (toneDigit c.args.tone) ≤ length c.spell_signs-n.new.out
-  digit_room = rw (written-length spelled) (omega (arith, few, digit-most c.args.tone))
+  digit-room : c.spell_signs-n.result + length (toneDigit c.args.tone) ≤ length c.spell_signs-n.new.out
+  digit-room = rw (written-length spelled) (omega (arith, few, digit-most c.args.tone))
 
 -- and the tone digit behind them
 module _ (c : After-put_digit-m) where
   toned : Written c.args.letters.now c.put_digit-m.new.out c.put_digit-m.result (body c.before.before.before.before ++ toneDigit c.args.tone)
-  toned = stored (spelled c.before.before.before.before) (toneDigit c.args.tone) c.put_digit-m.new.out c.put_digit-m.result (digit_room c.before.before.before.before) c.put_digit-m.ensures.0 c.put_digit-m.ensures.1
+  toned = stored (spelled c.before.before.before.before) (toneDigit c.args.tone) c.put_digit-m.new.out c.put_digit-m.result (digit-room c.before.before.before.before) c.put_digit-m.ensures.0 c.put_digit-m.ensures.1
 
   khin-room : c.put_digit-m.result + length (khinKey c.args.khin) ≤ length c.put_digit-m.new.out
   khin-room =
@@ -64,7 +64,7 @@ module _ (c : After-put_digit-m) where
       (omega (arith, c.put_digit-m.ensures.0, few c.before.before.before.before, digit-most c.args.tone, khin-most c.args.khin))
 
 pub put_digit-m-requires : goal.put_digit-m-requires
-put_digit-m-requires c = digit_room (goal.at.put_digit-m-requires c).After-spell_signs-n
+put_digit-m-requires c = digit-room (goal.at.put_digit-m-requires c).After-spell_signs-n
 
 pub put_khin-requires : goal.put_khin-requires
 put_khin-requires c = khin-room (goal.at.put_khin-requires c).After-put_digit-m

@@ -1,6 +1,6 @@
 use mathlib.Core.Path.{sym, ap}
 use Rattle.khiin_records.specs.Syllable.{keyTone}
-use Rattle.khiin_records.proofs.Records.{no_digit}
+use Rattle.khiin_records.proofs.Records.{no-digit}
 use borrow.Author.Rules.{rules}
 use Rattle.khiin_records.proofs.from_raw.key_tone.Goals as goal
 
@@ -41,4 +41,4 @@ unfolding keyTone
 returns-in-57 c = ap keyTone (sym c.in-57.is)
 
 pub returns-in_default : goal.returns-in_default
-returns-in_default c = no_digit c.args.key ((search rules), ((search rules), ((search rules), ((search rules), ((search rules), ((search rules), ((search rules), ((search rules), ((search rules), tt)))))))))
+returns-in_default c = no-digit c.args.key ((search rules), ((search rules), ((search rules), ((search rules), ((search rules), ((search rules), ((search rules), ((search rules), ((search rules), tt)))))))))

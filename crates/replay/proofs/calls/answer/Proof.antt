@@ -2,7 +2,7 @@ use mathlib.Core.Path.{◌≡◌, sym, ap, ◌∙◌}
 use lib.ListN.{drop}
 use lib.Seq.{length-take-le}
 use Rattle.ji.specs.Reply.{Reply}
-use Rattle.replay.specs.Calls.{beside, answer_of}
+use Rattle.replay.specs.Calls.{beside, answerOf}
 use Rattle.replay.proofs.Choice.{choose-0, choose-1, choose-2, choose-3, choose-4, choose-5, choose-6, choose-7}
 use borrow.Author.Rules.{rules}
 use Rattle.replay.proofs.calls.answer.Statement.{statement}
@@ -78,18 +78,18 @@ slice-aggregate-answer-of-syllables c =
 answer-of-syllables-requires : tie.Need-answer-of-syllables-requires
 answer-of-syllables-requires c κs = search rules
 
-same_length : tie.Need-same-length
-same_length c = search rules
+same-length : tie.Need-same-length
+same-length c = search rules
 
 returns : tie.Need-returns
-unfolding answer_of
+unfolding answerOf
 returns c =
     let a = c.before.before.before.before.before.before.before.before.args in
     ap (λ (r : Reply). beside r (drop a.h.lent a.buffer.now)) c.before.before.rf-strip.ensures
     ∙ sym (choose-0 _ _ _ _ _ _ _ _ _ c.before.before.before.before.match.keys1)
 
 returns-2 : tie.Need-returns-2
-unfolding answer_of
+unfolding answerOf
 returns-2 c =
     let a = c.before.before.before.before.before.args in
     ap (λ (r : Reply). beside r a.buffer.now) c.rf-tone-letter.ensures
@@ -99,7 +99,7 @@ same-length-2 : tie.Need-same-length-2
 same-length-2 c = search rules
 
 returns-3 : tie.Need-returns-3
-unfolding answer_of
+unfolding answerOf
 returns-3 c =
     let a = c.before.before.before.before.before.before.before.before.args in
     ap (λ (r : Reply). beside r (drop a.h.lent a.buffer.now)) c.before.before.wb-nfd.ensures
@@ -109,21 +109,21 @@ same-length-3 : tie.Need-same-length-3
 same-length-3 c = search rules
 
 returns-4 : tie.Need-returns-4
-unfolding answer_of
+unfolding answerOf
 returns-4 c =
     let a = c.before.before.before.before.before.before.before.before.args in
     ap (λ (r : Reply). beside r (drop a.h.lent a.buffer.now)) c.before.before.wb-nfc.ensures
     ∙ sym (choose-3 _ _ _ _ _ _ _ _ _ c.before.before.before.before.match.keys4)
 
 returns-5 : tie.Need-returns-5
-unfolding answer_of
+unfolding answerOf
 returns-5 c =
     let a = c.before.before.before.before.before.args in
     ap (λ (r : Reply). beside r a.buffer.now) c.wb-strip-khin.ensures
     ∙ sym (choose-4 _ _ _ _ _ _ _ _ _ c.before.match.keys5)
 
 returns-6 : tie.Need-returns-6
-unfolding answer_of
+unfolding answerOf
 returns-6 c =
     let a = c.before.before.before.before.before.args in
     ap (λ (r : Reply). beside r a.buffer.now) c.wb-has-tone-letter.ensures
@@ -133,7 +133,7 @@ same-length-4 : tie.Need-same-length-4
 same-length-4 c = search rules
 
 returns-7 : tie.Need-returns-7
-unfolding answer_of
+unfolding answerOf
 returns-7 c =
     let a = c.before.before.before.before.before.before.before.before.before.before.args in
     ap (λ (r : Reply). beside r (drop a.h.lent a.buffer.now)) c.before.before.wb-keys.ensures
@@ -143,7 +143,7 @@ same-length-5 : tie.Need-same-length-5
 same-length-5 c = search rules
 
 returns-8 : tie.Need-returns-8
-unfolding answer_of
+unfolding answerOf
 returns-8 c =
     let a = c.before.before.before.before.before.before.before.before.args in
     let rest = c.before.before.before.before.match.rest in
@@ -174,7 +174,7 @@ answer-spec =
     slice-relend-prefix-answer-of-syllables
     slice-aggregate-answer-of-syllables
     answer-of-syllables-requires
-    same_length
+    same-length
     returns
     returns-2
     same-length-2

@@ -41,8 +41,8 @@ rf-telex-requires c κs = search rules
 rf-align-requires : tie.Need-rf-align-requires
 rf-align-requires c κs = search rules
 
-same_length : tie.Need-same-length
-same_length c = search rules
+same-length : tie.Need-same-length
+same-length c = search rules
 
 returns : tie.Need-returns
 unfolding syllableAnswer
@@ -102,7 +102,7 @@ answer-of-syllables-spec =
     cast-rf-telex-2
     rf-telex-requires
     rf-align-requires
-    same_length
+    same-length
     returns
     same-length-2
     returns-2

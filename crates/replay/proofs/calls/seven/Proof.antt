@@ -30,8 +30,8 @@ returns c = rw (eq-eqb _ _ c.before.before.before.before.before.before.before.if
 returns-2 : tie.Need-returns-2
 returns-2 c = rw (ne_eqb _ _ c.if1.false)
 
-pub seven_spec : {M : Type 1} → statement M
-seven_spec =
+pub seven-spec : {M : Type 1} → statement M
+seven-spec =
     tie.close
     (tie.spec
     shared-slice-read-t5

@@ -42,8 +42,8 @@ loop-less-2 c = search rules
 loop-again-2 : tie.Need-loop-preserved-2 invariant-loop decreases-loop
 loop-again-2 c = search rules
 
-enum_told : tie.Need-enum-told invariant-loop decreases-loop
-enum_told c = search rules
+enum-told : tie.Need-enum-told invariant-loop decreases-loop
+enum-told c = search rules
 
 loop-less-3 : tie.Need-loop-smaller-3 invariant-loop decreases-loop
 loop-less-3 c = search rules
@@ -77,7 +77,7 @@ replay-all-spec =
     counted-requires-2
     loop-less-2
     loop-again-2
-    enum_told
+    enum-told
     loop-less-3
     loop-again-3
     enum-told-2

@@ -169,8 +169,8 @@ returns c =
       count = c.word2.ensures i;
     }
 
-pub read_spec : {M : Type 1} → statement M
-read_spec =
+pub read-spec : {M : Type 1} → statement M
+read-spec =
     tie.close
     (tie.spec
     element-copy-out-t4

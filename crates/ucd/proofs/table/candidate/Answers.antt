@@ -2,13 +2,13 @@
 -- `ucd::table::candidate` meets its contract: the first match reads the displacement of b, and the second the candidate. Assumes nothing.
 use Rattle.std.proofs.Common.{◌≡◌, ◌∙◌, rules}
 use Rattle.ucd.proofs.RowData.{displacementNumbers, candidateNumbers}
-use Rattle.ucd.proofs.RowLaw.{number_at}
+use Rattle.ucd.proofs.RowLaw.{numberAt}
 use Rattle.ucd.proofs.Rows.{displacement-arm, displacement-rest, candidate-arm, candidate-rest}
 use Rattle.ucd.proofs.table.candidate.Goals as goal
 use Rattle.ucd.proofs.table.candidate.Goals.{Joined-b-div32, in-24, in-25, in_default}
 
 -- the first match reads the displacement of b
-displaced : (c : Joined-b-div32) → c.match-b-div32.displacement ≡ number_at displacementNumbers c.args.b
+displaced : (c : Joined-b-div32) → c.match-b-div32.displacement ≡ numberAt displacementNumbers c.args.b
 unfolding displacementNumbers
 displaced c =
     elim c.match-b-div32.branch [

@@ -28,18 +28,18 @@ use Rattle.ji.proofs.lomaji.keys.keys_in.Goals.{After-tone_key-key}
 
 -- the text was stripped, and the key of its tone found
 module _ (c : After-tone_key-key) where
-  abbrev result_of : StripResult
-  result_of = c.in-Done.result
+  abbrev resultOf : StripResult
+  resultOf = c.in-Done.result
 
   abbrev after : List ℕ
   after = c.strip_tone_diacritic.new.out
 
   abbrev n : ℕ
-  n = result_of.len.0
+  n = resultOf.len.0
 
-  stripping : Stripping c.args.text.now c.args.bytes.now after result_of
+  stripping : Stripping c.args.text.now c.args.bytes.now after resultOf
   stripping =
-      strip-done c.args.text.now c.args.bytes.now after result_of
+      strip-done c.args.text.now c.args.bytes.now after resultOf
       (ap (λ (x : Strip). stripReply x after) (sym c.in-Done.is) ∙ c.strip_tone_diacritic.ensures)
 
   abbrev u : List ℕ
@@ -72,14 +72,14 @@ module _ (c : After-tone_key-key) where
       ≡ textCall unicode16 (keys unicode16 c.args.form c.args.kind) c.args.text.now c.args.out.now
   answered =
       let a = c.args in
-      ap (λ (l : List ℕ). placed 0 (encode l) a.out.now) (keys-are a.form a.kind u result_of.tone (keyText c.tone_key-key.result) stripping.tone c.tone_key-key.ensures)
+      ap (λ (l : List ℕ). placed 0 (encode l) a.out.now) (keys-are a.form a.kind u resultOf.tone (keyText c.tone_key-key.result) stripping.tone c.tone_key-key.ensures)
       ∙ text-good unicode16 (keys unicode16 a.form a.kind) a.text.now a.out.now u stripping.good
 
   as-they-are : allAscii (take (n - 0) after) ≡ true → take n after ++ keyText c.tone_key-key.result ≡ encode (respell (rulesOf c.args.form) rest ++ keyText c.tone_key-key.result)
   as-they-are low =
       let plain : take n after ≡ take (n - 0) after = ap (λ (m : ℕ). take m after) (sym (sub-zero n)) in
       ap (λ (l : List ℕ). l ++ keyText c.tone_key-key.result) plain
-      ∙ ascii-keys c.args.form c.args.kind (toneNumber result_of.tone) rest (take (n - 0) after) (keyText c.tone_key-key.result) inside part-is low c.tone_key-key.ensures
+      ∙ ascii-keys c.args.form c.args.kind (toneNumber resultOf.tone) rest (take (n - 0) after) (keyText c.tone_key-key.result) inside part-is low c.tone_key-key.ensures
 
 pub slice_bounds-is_ascii-end : goal.slice_bounds-is_ascii-end
 slice_bounds-is_ascii-end c = omega (arith, fits (goal.at.slice_bounds-is_ascii-end c).After-tone_key-key, same-room (goal.at.slice_bounds-is_ascii-end c).After-tone_key-key)

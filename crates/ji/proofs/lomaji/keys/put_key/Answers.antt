@@ -12,12 +12,12 @@ use native.Mathlib.Omega.{arith}
 use Rattle.ji.proofs.lomaji.keys.put_key.Goals as goal
 
 -- there is room for the key as it was matched
-fits_told : (out : List ℕ) (at : ℕ) (x told : ToneKey) → x ≡ told → at + length (keyText x) ≤ length out → at + length (keyText told) ≤ length out
-fits_told out at x told is h = rw is at h
+fits-told : (out : List ℕ) (at : ℕ) (x told : ToneKey) → x ≡ told → at + length (keyText x) ≤ length out → at + length (keyText told) ≤ length out
+fits-told out at x told is h = rw is at h
 
 pub bounds-out-at : goal.bounds-out-at
 bounds-out-at c =
-    let h = fits_told c.args.out.now c.args.at _ _ c.in-Key.is c.requires in
+    let h = fits-told c.args.out.now c.args.at _ _ c.in-Key.is c.requires in
     omega arith
 
 pub returns-in-Nothing : goal.returns-in-Nothing
@@ -27,5 +27,5 @@ returns-in-Nothing c =
 
 pub returns-in-Key : goal.returns-in-Key
 returns-in-Key c =
-    let h = fits_told c.args.out.now c.args.at _ _ c.in-Key.is c.requires in
+    let h = fits-told c.args.out.now c.args.at _ _ c.in-Key.is c.requires in
     rw c.in-Key.is (refl, stores-1 c.args.out.now c.args.at c.in-Key.k (omega arith))

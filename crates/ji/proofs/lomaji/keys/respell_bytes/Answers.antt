@@ -15,7 +15,7 @@ use Rattle.ji.proofs.Writing.{written-length, written-run}
 use Rattle.ji.proofs.Readings.{front, told}
 use Rattle.ji.proofs.utf8.OneToOne.{fewer}
 use Rattle.ji.proofs.unicode.Laws.{spread-plain}
-use Rattle.ji.proofs.unicode.Checked.{bytes_good, points-passed, good-same, good-not-bad}
+use Rattle.ji.proofs.unicode.Checked.{bytes-good, points-passed, good-same, good-not-bad}
 use Rattle.ji.proofs.lomaji.keys.Laws.{respell-length, key-length}
 use native.Mathlib.Omega.{arith}
 use Rattle.ji.proofs.lomaji.keys.respell_bytes.Goals as goal
@@ -70,13 +70,13 @@ put_key-requires c =
 pub returns-in-Refused : goal.returns-in-Refused
 returns-in-Refused c =
     λ rest inside is.
-    absurd (good-not-bad (sym (bytes_good _ rest inside is) ∙ (told unicode16 _ _ _ false c.in-Refused.is (reading (goal.at.returns-in-Refused c).After-read_points)).0))
+    absurd (good-not-bad (sym (bytes-good _ rest inside is) ∙ (told unicode16 _ _ _ false c.in-Refused.is (reading (goal.at.returns-in-Refused c).After-read_points)).0))
 
 pub returns-in-Points : goal.returns-in-Points
 returns-in-Points c =
     λ rest inside is.
     let v = c.respell-m.ensures.1 in
-    let same : take (c.in-Points.len.0 - 0) c.read_points.new.out ≡ rest = front (read (goal.at.returns-in-Points c).After-read_points c.in-Points.len c.in-Points.is) ∙ good-same (sym (passes (goal.at.returns-in-Points c).After-read_points c.in-Points.len c.in-Points.is) ∙ bytes_good _ rest inside is) in
+    let same : take (c.in-Points.len.0 - 0) c.read_points.new.out ≡ rest = front (read (goal.at.returns-in-Points c).After-read_points c.in-Points.len c.in-Points.is) ∙ good-same (sym (passes (goal.at.returns-in-Points c).After-read_points c.in-Points.len c.in-Points.is) ∙ bytes-good _ rest inside is) in
     let f = c.args.form in
     let w = subst (λ (s : List ℕ). Written c.args.letters.now c.respell-m.new.out c.respell-m.result (respell (rulesOf f) s)) same v in
     rw (c.put_key.ensures.0, c.put_key.ensures.1) (written-run w (keyText c.args.key) (key-room (goal.at.returns-in-Points c).After-read_points c.in-Points.len c.in-Points.is _ _ v))

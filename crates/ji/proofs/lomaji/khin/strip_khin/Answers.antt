@@ -1,5 +1,5 @@
 use mathlib.Core.Path.{sym, ◌∙◌}
-use Rattle.ji.proofs.lomaji.khin.Laws.{marked-fits, part-after, after_none}
+use Rattle.ji.proofs.lomaji.khin.Laws.{marked-fits, part-after, after-none}
 use native.Mathlib.Omega.{arith}
 use Rattle.ji.proofs.lomaji.khin.strip_khin.Goals as goal
 
@@ -13,4 +13,4 @@ pub returns-then-has_mark : goal.returns-then-has_mark
 returns-then-has_mark c = part-after c.args.text.now (sym c.has_mark.ensures ∙ c.if-has_mark.true)
 
 pub returns-else-has_mark : goal.returns-else-has_mark
-returns-else-has_mark c = sym (after_none c.args.text.now (sym c.has_mark.ensures ∙ c.if-has_mark.false))
+returns-else-has_mark c = sym (after-none c.args.text.now (sym c.has_mark.ensures ∙ c.if-has_mark.false))

@@ -5,28 +5,28 @@ use lib.ListN.{length}
 use lib.Seq.{paste}
 use Rattle.ucd.proofs.Unicode16.{low-starter}
 use Rattle.ji.specs.Written.{Written}
-use Rattle.ji.specs.Utf8.{bytes_of, encode}
+use Rattle.ji.specs.Utf8.{bytesOf, encode}
 use Rattle.ji.specs.Lomaji.Strip.{withoutMarks}
 use Rattle.ji.specs.Lomaji.Quick.{Stripping}
 use Rattle.ji.specs.declared.lomaji.quick.Progress.{Progress}
 use Rattle.ji.proofs.Writing.{written-length}
-use Rattle.ji.proofs.utf8.Encoding.{bytes_most}
+use Rattle.ji.proofs.utf8.Encoding.{bytes-most}
 use Rattle.ji.proofs.lomaji.quick.Laws.{high-starter, written-point, stripping-starter, stripping-behind, stripping-unsorted}
 use native.Mathlib.Omega.{arith}
 use Rattle.ji.proofs.lomaji.quick.push_kept.Goals as goal
 
 -- the bytes of the code point are written
-module _ (p : Progress) (x : ℕ) (small : x ≤ 0xFFFF) (out out' : List ℕ) (r : ℕ) (er : r ≡ p.n + length (bytes_of x)) (eo : out' ≡ paste out p.n (bytes_of x) (length (bytes_of x))) (room : p.n + 3 ≤ length out) where
+module _ (p : Progress) (x : ℕ) (small : x ≤ 0xFFFF) (out out' : List ℕ) (r : ℕ) (er : r ≡ p.n + length (bytesOf x)) (eo : out' ≡ paste out p.n (bytesOf x) (length (bytesOf x))) (room : p.n + 3 ≤ length out) where
   few : r ≤ p.n + 3
-  few = omega (arith, bytes_most x small)
+  few = omega (arith, bytes-most x small)
 
   wrote : (before s : List ℕ) → Stripping before out p s → Written before out' r (encode (withoutMarks s ++ (x ∷ [])))
   wrote before s h =
       let size : length out ≡ length before = written-length h.written in
-      rw (er, eo) (written-point before out p s h x (omega (arith, bytes_most x small)))
+      rw (er, eo) (written-point before out p s h x (omega (arith, bytes-most x small)))
 
 pub put_point-n-requires : goal.put_point-n-requires
-put_point-n-requires c = let small : c.args.x ≤ 0xFFFF = omega arith in (small, omega (arith, bytes_most c.args.x small))
+put_point-n-requires c = let small : c.args.x ≤ 0xFFFF = omega arith in (small, omega (arith, bytes-most c.args.x small))
 
 pub returns-then-x-lt768 : goal.returns-then-x-lt768
 returns-then-x-lt768 c =

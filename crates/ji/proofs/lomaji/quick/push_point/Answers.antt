@@ -6,7 +6,7 @@ use Rattle.ucd.specs.Full.{full}
 use Rattle.ucd.specs.Unicode16.{unicode16}
 use Rattle.ji.specs.Lomaji.Strip.{isToneMark}
 use Rattle.ji.proofs.unicode.Laws.{dot-full}
-use Rattle.ji.proofs.lomaji.quick.Laws.{further_same}
+use Rattle.ji.proofs.lomaji.quick.Laws.{further-same}
 use native.Mathlib.Omega.{arith}
 use Rattle.ji.proofs.lomaji.quick.push_point.Goals as goal
 
@@ -21,4 +21,4 @@ pub returns-then-c-eq856 : goal.returns-then-c-eq856
 returns-then-c-eq856 c =
     let w = c.push_kept in
     let e = c.if-c-eq856.true in
-    (omega (arith, w.ensures.0), further_same (ap (λ (x : ℕ). x ∷ []) e ∙ sym (ap (λ (x : ℕ). full unicode16 (x ∷ [])) e ∙ dot-full)) w.ensures.1)
+    (omega (arith, w.ensures.0), further-same (ap (λ (x : ℕ). x ∷ []) e ∙ sym (ap (λ (x : ℕ). full unicode16 (x ∷ [])) e ∙ dot-full)) w.ensures.1)

@@ -7,15 +7,15 @@ use lib.ListN.{length, drop, get_or}
 use Rattle.ucd.specs.Table.{member}
 use Rattle.ucd.specs.Full.{full}
 use Rattle.ucd.specs.Unicode16.{unicode16}
-use Rattle.ucd.proofs.Unicode16.{member_below}
+use Rattle.ucd.proofs.Unicode16.{member-below}
 use Rattle.ji.specs.Utf8.{ReadOf}
 use Rattle.ji.specs.Lomaji.Quick.{Further}
 use Rattle.ji.specs.declared.lomaji.quick.Progress.{Progress}
 use Rattle.ji.proofs.Writing.{written-length}
-use Rattle.ji.proofs.utf8.Laws.{read_one}
+use Rattle.ji.proofs.utf8.Laws.{read-one}
 use Rattle.ji.proofs.unicode.Reader.{width-within}
 use Rattle.ji.proofs.unicode.Ascii.{ascii-member}
-use Rattle.ji.proofs.lomaji.quick.Laws.{further_same, ascii-full, Walking, walking_start, walking-more, walking-end}
+use Rattle.ji.proofs.lomaji.quick.Laws.{further-same, ascii-full, Walking, walking-start, walking-more, walking-end}
 use native.Mathlib.Omega.{arith}
 use Rattle.ji.proofs.lomaji.quick.walk.Goals as goal
 
@@ -26,8 +26,8 @@ module _ (s before out : List ℕ) (i : ℕ) (p : Progress) (r : Walking s befor
   -- a turn over an ASCII character
   ascii-again : get_or s i 0 < 0x80 → (q : Progress) (out' : List ℕ) → q.n ≤ p.n + 1 → Further p q out out' (get_or s i 0 ∷ []) → Walking s before out' (i + 1) q
   ascii-again k q out' few step =
-      walking-more s before out i p r h 1 (get_or s i 0) (read_one s i h (omega arith)) (omega arith) (ascii-member (get_or s i 0) k) q out'
-      (further_same (sym (ascii-full (get_or s i 0) k)) step) (omega (arith, r.room))
+      walking-more s before out i p r h 1 (get_or s i 0) (read-one s i h (omega arith)) (omega arith) (ascii-member (get_or s i 0) k) q out'
+      (further-same (sym (ascii-full (get_or s i 0) k)) step) (omega (arith, r.room))
 
   -- a turn over a sequence of width w and code point x
   module _ (w x : ℕ) (read : ReadOf (drop i s) w x) (some : w ≡ 0 → ⊥) where
@@ -38,7 +38,7 @@ module _ (s before out : List ℕ) (i : ℕ) (p : Progress) (r : Walking s befor
     again m fit q out' few step = walking-more s before out i p r h w x read (omega (arith, some)) (sym m) q out' step (omega (arith, out-length, ends))
 
 pub loop-i-init : goal.loop-i-init
-loop-i-init c = walking_start c.args.s.now c.args.out.now c.requires.0
+loop-i-init c = walking-start c.args.s.now c.args.out.now c.requires.0
 
 pub push_ascii-p-requires : goal.push_ascii-p-requires
 push_ascii-p-requires c = (c.if-a-lt128.true, omega (arith, c.loop-i.invariant.room, out-length c.args.s.now c.args.out.now c.loop-i.out c.loop-i.i c.loop-i.p c.loop-i.invariant c.loop-i-test.true))
@@ -55,7 +55,7 @@ pub overflow_add-p-else-a-lt128 : goal.overflow_add-p-else-a-lt128
 overflow_add-p-else-a-lt128 c = omega (arith, c.loop-i.invariant.room, c.requires.1)
 
 pub overflow_cast-point : goal.overflow_cast-point
-overflow_cast-point c = let low = member_below _ (subst T (sym c.if-is_member.true ∙ c.is_member.ensures) tt) in omega arith
+overflow_cast-point c = let low = member-below _ (subst T (sym c.if-is_member.true ∙ c.is_member.ensures) tt) in omega arith
 
 pub push_point-p-requires : goal.push_point-p-requires
 push_point-p-requires c = omega (arith, c.if-out-p.false)

@@ -9,14 +9,14 @@ use Rattle.ji.specs.Tone.{toneNumber}
 use Rattle.ji.specs.Reply.{refused, placed}
 use Rattle.ji.specs.Lomaji.Strip.{markTone}
 use Rattle.ji.specs.declared.reply.Refusal.TheVariants.{NoRoom}
-use Rattle.ji.proofs.Writing.{written_one, written_behind, written-length}
+use Rattle.ji.proofs.Writing.{written-one, written-behind, written-length}
 use Rattle.ji.proofs.Replies.{placed-not, placed-written}
 use native.Mathlib.Omega.{arith}
 use Rattle.ji.proofs.lomaji.single.place_marked.Goals as goal
 
 -- one byte of the letter's two is left
-no_room : (tone : ℕ) (text out : List ℕ) (at base : ℕ) → at + 2 ≤ length text → length out < length text - 1 → refused NoRoom out ≡ placed tone (take at text ++ (base ∷ drop (at + 2) text)) out
-no_room tone text out at base inside short =
+no-room : (tone : ℕ) (text out : List ℕ) (at base : ℕ) → at + 2 ≤ length text → length out < length text - 1 → refused NoRoom out ≡ placed tone (take at text ++ (base ∷ drop (at + 2) text)) out
+no-room tone text out at base inside short =
     placed-not tone (take at text ++ (base ∷ drop (at + 2) text)) out
     (omega (arith, length-append (take at text) (base ∷ drop (at + 2) text), length-take-le at text (omega arith), length-drop (at + 2) text))
 
@@ -41,7 +41,7 @@ module _ (text out front : List ℕ) (at base : ℕ) (inside : at + 2 ≤ length
   front-written = subst (λ (l : List ℕ). Written out front at l) front-is (subst (λ (k : ℕ). Written out front k (take (at - 0) text)) front-size w)
 
   base-written : Written out based (at + 1) (take at text ++ (base ∷ []))
-  base-written = written_one front-written base (omega arith)
+  base-written = written-one front-written base (omega arith)
 
   based-length : length based ≡ length out
   based-length = written-length base-written
@@ -61,11 +61,11 @@ module _ (text out front : List ℕ) (at base : ℕ) (inside : at + 2 ≤ length
   all-written part v =
       let size : at + 1 + length behind ≡ length text - 1 = omega (arith, ap length behind-is, length-drop (at + 2) text) in
       let is : take at text ++ (base ∷ []) ++ behind ≡ take at text ++ (base ∷ drop (at + 2) text) = append_snoc (take at text) base behind ∙ ap (λ (l : List ℕ). take at text ++ (base ∷ l)) behind-is in
-      rw (← size, ← is) (written_behind base-written v)
+      rw (← size, ← is) (written-behind base-written v)
 
 pub returns-then-out-text : goal.returns-then-out-text
 returns-then-out-text c =
-    no_room (toneNumber (markTone (c.args.letter % 65536))) c.args.text.now c.args.out.now c.args.at (c.args.letter / 65536) c.requires.0 c.if-out-text.true
+    no-room (toneNumber (markTone (c.args.letter % 65536))) c.args.text.now c.args.out.now c.args.at (c.args.letter / 65536) c.requires.0 c.if-out-text.true
 
 pub slice_bounds-copy-count-3 : goal.slice_bounds-copy-count-3
 slice_bounds-copy-count-3 c =

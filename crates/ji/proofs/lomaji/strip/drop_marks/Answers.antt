@@ -8,8 +8,8 @@ use Rattle.ji.specs.Tone.{isTone}
 use Rattle.ji.specs.Lomaji.Strip.{markTone, isToneMark, withoutMarks, droppedMarks, lastTone}
 use Rattle.ji.specs.declared.tone.Tone.{Tone}
 use Rattle.ji.specs.declared.tone.Tone.TheVariants.{None}
-use Rattle.ji.proofs.Writing.{written_none, written_one, written-rest, written-length}
-use Rattle.ji.proofs.lomaji.strip.Laws.{mark-is, without-kept, without-dropped, marks-kept, marks-dropped, without_end, marks-end, last_none, last_more}
+use Rattle.ji.proofs.Writing.{written-none, written-one, written-rest, written-length}
+use Rattle.ji.proofs.lomaji.strip.Laws.{mark-is, without-kept, without-dropped, marks-kept, marks-dropped, without-end, marks-end, last-none, last-more}
 use native.Mathlib.Omega.{arith}
 use Rattle.ji.proofs.lomaji.strip.drop_marks.Goals as goal
 
@@ -32,7 +32,7 @@ module _ (s₀ s : List ℕ) (i n : ℕ) (last : Tone) (v : ((n ≤ i) × (w : L
       v.1,
       v.2,
       ap (λ (l : List ℕ). v.1 ++ l) (sym (without-dropped s₀ i shorter is-mark)) ∙ v.3,
-      rw (e, unread) (sym (last_more last (get_or s₀ i 0) (droppedMarks (drop (i + 1) s₀))) ∙ ap (lastTone last) (sym (marks-dropped s₀ i shorter is-mark))) ∙ v.4,
+      rw (e, unread) (sym (last-more last (get_or s₀ i 0) (droppedMarks (drop (i + 1) s₀))) ∙ ap (lastTone last) (sym (marks-dropped s₀ i shorter is-mark))) ∙ v.4,
     )
 
   -- .. and anything else kept
@@ -44,13 +44,13 @@ module _ (s₀ s : List ℕ) (i n : ℕ) (last : Tone) (v : ((n ≤ i) × (w : L
     keeps = (
       omega arith,
       v.1 ++ (get_or s i 0 ∷ []),
-      written_one v.2 (get_or s i 0) (omega (arith, shorter)),
+      written-one v.2 (get_or s i 0) (omega (arith, shorter)),
       append_assoc v.1 (get_or s i 0 ∷ []) (withoutMarks (drop (i + 1) s₀)) ∙ ap (λ (c : ℕ). v.1 ++ (c ∷ withoutMarks (drop (i + 1) s₀))) unread ∙ ap (λ (l : List ℕ). v.1 ++ l) (sym (without-kept s₀ i shorter no-tone)) ∙ v.3,
       ap (lastTone last) (sym (marks-kept s₀ i shorter no-tone)) ∙ v.4,
     )
 
 pub loop-i-init : goal.loop-i-init
-loop-i-init c = (omega arith, [], written_none c.args.s.now, refl, refl)
+loop-i-init c = (omega arith, [], written-none c.args.s.now, refl, refl)
 
 pub offset_bounds-s-i : goal.offset_bounds-s-i
 offset_bounds-s-i c = omega (arith, written-length c.loop-i.invariant.2)
@@ -83,6 +83,6 @@ returns c =
     let v = c.loop-i.invariant in
     let s₀ = c.args.s.now in
     let h : length s₀ ≤ c.loop-i.i = omega (arith, written-length v.2) in (
-      rw (← v.3, without_end s₀ c.loop-i.i h, append-nil v.1) v.2,
-      sym (ap (lastTone c.loop-i.last) (marks-end s₀ c.loop-i.i h) ∙ last_none c.loop-i.last) ∙ v.4,
+      rw (← v.3, without-end s₀ c.loop-i.i h, append-nil v.1) v.2,
+      sym (ap (lastTone c.loop-i.last) (marks-end s₀ c.loop-i.i h) ∙ last-none c.loop-i.last) ∙ v.4,
     )

@@ -2,7 +2,7 @@ use mathlib.Core.Path.{ap, ◌∙◌}
 use mathlib.Core.List.{List}
 use Prim.Native.Nat.{ℕ}
 use Rattle.ucd.specs.Unicode16.{unicode16}
-use Rattle.ji.specs.Lomaji.ToneLetter.{toneLetter, is_some, hasLetterReply}
+use Rattle.ji.specs.Lomaji.ToneLetter.{toneLetter, isSome, hasLetterReply}
 use Rattle.ji.proofs.Writing.{written-length}
 use Rattle.ji.proofs.Readings.{front, nfd-told}
 use Rattle.ji.proofs.lomaji.tone_letter.Laws.{has-refused, has-good}
@@ -23,4 +23,4 @@ pub returns-in-Points : goal.returns-in-Points
 returns-in-Points c =
     let a = c.args in
     let h = nfd-told unicode16 _ _ _ c.in-Points.is c.read_nfd.ensures in
-    c.has_letter.ensures ∙ ap (λ (s : List ℕ). hasLetterReply (is_some (toneLetter s))) (front h.2) ∙ has-good unicode16 a.text.now h.0 h.1
+    c.has_letter.ensures ∙ ap (λ (s : List ℕ). hasLetterReply (isSome (toneLetter s))) (front h.2) ∙ has-good unicode16 a.text.now h.0 h.1

@@ -21,14 +21,14 @@ module _ (x small : ℕ) (low : 0x61 ≤ small) (high : small ≤ 0x7A) where
   by-capital n = by-case (dec_le 65 x) (dec_le x 90)
     where
       by-case : Dec (65 ≤ x) → Dec (x ≤ 90) → eqb x (small - 32) ≡ eqb (lower x) small
-      by-case (yes a) (yes b) = by_value (ℕ_discrete x (small - 32))
+      by-case (yes a) (yes b) = by-value (ℕ_discrete x (small - 32))
         where
           up : lower x ≡ x + 32
           up = number-yes _ _ _ (within-yes 65 90 x a b)
 
-          by_value : Dec (x ≡ small - 32) → eqb x (small - 32) ≡ eqb (lower x) small
-          by_value (yes e) = let f : x + 32 ≡ small = omega arith in eq-eqb _ _ e ∙ sym (eq-eqb _ _ (up ∙ f))
-          by_value (no m) = let f : x + 32 ≡ small → ⊥ = λ z. m (omega arith) in ne_eqb _ _ m ∙ sym (ne_eqb _ _ (λ z. f (sym up ∙ z)))
+          by-value : Dec (x ≡ small - 32) → eqb x (small - 32) ≡ eqb (lower x) small
+          by-value (yes e) = let f : x + 32 ≡ small = omega arith in eq-eqb _ _ e ∙ sym (eq-eqb _ _ (up ∙ f))
+          by-value (no m) = let f : x + 32 ≡ small → ⊥ = λ z. m (omega arith) in ne_eqb _ _ m ∙ sym (ne_eqb _ _ (λ z. f (sym up ∙ z)))
       by-case (yes a) (no b) =
           let m : x ≡ small - 32 → ⊥ = λ z. omega arith in
           ne_eqb _ _ m ∙ sym (ne_eqb _ _ (λ z. n (sym (number-no _ _ _ (within-above 65 90 x (omega arith))) ∙ z)))

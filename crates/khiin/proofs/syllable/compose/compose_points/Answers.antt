@@ -6,7 +6,7 @@ use lib.ListN.{take}
 use lib.Seq.{length-take-le}
 use Rattle.khiin.specs.Compose.{NoSignBefore, SettledAs, settledBody}
 use Rattle.khiin.specs.declared.syllable.compose.Settled.{Settled}
-use Rattle.khiin.proofs.syllable.compose.Laws.{front_fits, front-longer}
+use Rattle.khiin.proofs.syllable.compose.Laws.{front-fits, front-longer}
 use native.Mathlib.Omega.{arith}
 use Rattle.khiin.proofs.syllable.compose.compose_points.Goals as goal
 
@@ -19,7 +19,7 @@ whole s n {part} {r} h rest =
 pub place_settled-requires : goal.place_settled-requires
 place_settled-requires c =
     let n = length-take-le (c.args.n - 0) c.args.s.now (omega (arith, c.requires.1)) in
-    let few = front_fits c.settle-settled.ensures.front in
+    let few = front-fits c.settle-settled.ensures.front in
     (omega (arith, few, c.settle-settled.auto.s, n, c.requires.0), omega (arith, few, c.settle-settled.auto.s, n, c.requires.1), λ e. let q = whole c.args.s.now c.args.n c.settle-settled.ensures _ in subst NoSignBefore (sym q.front.is) (q.lone e))
 
 pub returns : goal.returns

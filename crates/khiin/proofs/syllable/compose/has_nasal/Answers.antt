@@ -8,7 +8,7 @@ use borrow.Author.Tests.{ne_eqb}
 use lib.Dec.{eqb}
 use lib.ListN.{drop, get_or}
 use Rattle.ji.specs.Text.{lower}
-use Rattle.ji.proofs.Bools.{false-true, and_no, and-false}
+use Rattle.ji.proofs.Bools.{false-true, and-no, and-false}
 use Rattle.khiin.specs.Compose.{isNasalPair}
 use Rattle.khiin.proofs.syllable.compose.Once.{nasal-at}
 use native.Mathlib.Omega.{arith}
@@ -17,14 +17,14 @@ use Rattle.khiin.proofs.syllable.compose.has_nasal.Goals.{then-lower-eq110+else-
 
 -- one place more
 more : (s : List ℕ) (i : ℕ) → 2 ≤ i → ((k : ℕ) → k + 2 < i → isNasalPair (drop k s) ≡ false) → isNasalPair (drop (i - 2) s) ≡ false → (k : ℕ) → k + 2 < i + 1 → isNasalPair (drop k s) ≡ false
-more s i some n e k h = by_place (ℕ_discrete (k + 2) i)
+more s i some n e k h = by-place (ℕ_discrete (k + 2) i)
   where
-    by_place : Dec (k + 2 ≡ i) → isNasalPair (drop k s) ≡ false
-    by_place (yes z) = let w : i - 2 ≡ k = omega arith in subst (λ (m : ℕ). isNasalPair (drop m s) ≡ false) w e
-    by_place (no z) = n k (omega arith)
+    by-place : Dec (k + 2 ≡ i) → isNasalPair (drop k s) ≡ false
+    by-place (yes z) = let w : i - 2 ≡ k = omega arith in subst (λ (m : ℕ). isNasalPair (drop m s) ≡ false) w e
+    by-place (no z) = n k (omega arith)
 
 first-not : (s : List ℕ) (i : ℕ) → (lower (get_or s (i - 2) 0) ≡ 0x6E → ⊥) → isNasalPair (drop (i - 2) s) ≡ false
-first-not s i n = nasal-at s (i - 2) ∙ and_no _ _ (ne_eqb _ _ n)
+first-not s i n = nasal-at s (i - 2) ∙ and-no _ _ (ne_eqb _ _ n)
 
 second-not : (s : List ℕ) (i : ℕ) → 2 ≤ i → (lower (get_or s (i - 1) 0) ≡ 0x6E → ⊥) → isNasalPair (drop (i - 2) s) ≡ false
 second-not s i h n =

@@ -3,13 +3,13 @@ use lib.ListN.{length}
 use Rattle.ji.proofs.Bools.{false-true}
 use Rattle.khiin.specs.Syllable.{moved}
 use Rattle.khiin.specs.Compose.{Front, NoSignBefore}
-use Rattle.khiin.proofs.syllable.compose.Laws.{front_fits, front-whole, front-step}
+use Rattle.khiin.proofs.syllable.compose.Laws.{front-fits, front-whole, front-step}
 use Rattle.khiin.proofs.syllable.compose.Once.{moved-none-lone}
 use native.Mathlib.Omega.{arith}
 use Rattle.khiin.proofs.syllable.compose.move_signs.Goals as goal
 
 pub slice_bounds-move_sign-end : goal.slice_bounds-move_sign-end
-slice_bounds-move_sign-end c = omega (arith, front_fits c.move_sign-n.ensures)
+slice_bounds-move_sign-end c = omega (arith, front-fits c.move_sign-n.ensures)
 
 pub returns-then-has_sign : goal.returns-then-has_sign
 returns-then-has_sign c =

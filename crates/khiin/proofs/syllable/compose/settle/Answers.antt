@@ -6,7 +6,7 @@ use Rattle.ji.specs.Lomaji.Keys.{respell}
 use Rattle.khiin.specs.Syllable.{vowelRules, nasalised, moved}
 use Rattle.khiin.specs.Compose.{Front, SettledAs, settledBody}
 use Rattle.khiin.specs.declared.syllable.compose.Settled.{Settled}
-use Rattle.khiin.proofs.syllable.compose.Laws.{front_fits, front-part, front-longer}
+use Rattle.khiin.proofs.syllable.compose.Laws.{front-fits, front-part, front-longer}
 use native.Mathlib.Omega.{arith}
 use Rattle.khiin.proofs.syllable.compose.settle.Goals as goal
 
@@ -19,7 +19,7 @@ settled s {vowels} {buffer} {part} {n} {r} e f h rest =
     record { front = front-longer g.front rest; lone = g.lone }
 
 pub slice_bounds-move_signs-end : goal.slice_bounds-move_signs-end
-slice_bounds-move_signs-end c = omega (arith, front_fits c.nasalise-n.ensures)
+slice_bounds-move_signs-end c = omega (arith, front-fits c.nasalise-n.ensures)
 
 pub returns : goal.returns
 returns c =

@@ -5,7 +5,7 @@ use Prim.Native.Nat.{ℕ, ◌+◌, ◌-◌, ◌≤◌, ◌<◌}
 use lib.ListN.{length, drop, get_or, set, length-drop, length-set}
 use Rattle.ji.specs.Text.{begins, replaceAll}
 use Rattle.ji.proofs.text.Laws.{begins-length, replace-at-hit, replace-at-miss, replace-end}
-use Rattle.khiin.proofs.syllable.compose.Laws.{Walk, walk_start, walk-length, walk-unread, walk_here, walk-one, walk_end}
+use Rattle.khiin.proofs.syllable.compose.Laws.{Walk, walk-start, walk-length, walk-unread, walk-here, walk-one, walk-end}
 use native.Mathlib.Omega.{arith}
 use Rattle.khiin.proofs.syllable.compose.shrink_pair.Goals as goal
 
@@ -22,13 +22,13 @@ module _ (a b c : ℕ) {s₀ s : List ℕ} {i n : ℕ} (v : Walk (replaceAll (a 
 
     miss : begins (a ∷ b ∷ []) (drop i s) ≡ false → Walk (replaceAll (a ∷ b ∷ []) (c ∷ [])) s₀ (set s n (get_or s i 0)) (i + 1) (n + 1)
     miss e =
-        rw (walk_here v)
+        rw (walk-here v)
         (walk-one v (i + 1) (get_or s₀ i 0)
         (replace-at-miss (a ∷ b ∷ []) (c ∷ []) s₀ i (omega (arith, walk-length v)) (ap (begins (a ∷ b ∷ [])) (sym (walk-unread v)) ∙ e))
         (omega arith) (omega arith))
 
 pub loop-i-init : goal.loop-i-init
-loop-i-init c = walk_start (replaceAll (c.args.a ∷ c.args.b ∷ []) (c.args.c ∷ [])) c.args.s.now
+loop-i-init c = walk-start (replaceAll (c.args.a ∷ c.args.b ∷ []) (c.args.c ∷ [])) c.args.s.now
 
 pub bounds-s-n : goal.bounds-s-n
 bounds-s-n c = omega (arith, c.loop-i.invariant.behind)
@@ -61,4 +61,4 @@ pub returns : goal.returns
 returns c =
     let v = c.loop-i.invariant in
     let a = c.args in
-    walk_end v (replace-end (a.a ∷ a.b ∷ []) (a.c ∷ []) a.s.now c.loop-i.i (omega (arith, walk-length v)))
+    walk-end v (replace-end (a.a ∷ a.b ∷ []) (a.c ∷ []) a.s.now c.loop-i.i (omega (arith, walk-length v)))

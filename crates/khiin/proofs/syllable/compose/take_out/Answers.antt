@@ -4,13 +4,13 @@ use Prim.Native.Nat.{ℕ, ◌+◌, ◌-◌, ◌<◌}
 use lib.ListN.{length, drop, get_or, set, length-set}
 use Rattle.ji.specs.Text.{replaceAll}
 use Rattle.ji.proofs.text.Laws.{drop-next, replace-point, replace-other, replace-end}
-use Rattle.khiin.proofs.syllable.compose.Laws.{Walk, walk_start, walk-length, walk_here, walk-one, walk-past, walk_end}
+use Rattle.khiin.proofs.syllable.compose.Laws.{Walk, walk-start, walk-length, walk-here, walk-one, walk-past, walk-end}
 use native.Mathlib.Omega.{arith}
 use Rattle.khiin.proofs.syllable.compose.take_out.Goals as goal
 
 module _ (c : ℕ) {s₀ s : List ℕ} {i n : ℕ} (v : Walk (replaceAll (c ∷ []) []) s₀ s i n) (h : i < length s) where
   here : drop i s₀ ≡ get_or s i 0 ∷ drop (i + 1) s₀
-  here = drop-next s₀ i (omega (arith, walk-length v)) ∙ ap (λ (x : ℕ). x ∷ drop (i + 1) s₀) (sym (walk_here v))
+  here = drop-next s₀ i (omega (arith, walk-length v)) ∙ ap (λ (x : ℕ). x ∷ drop (i + 1) s₀) (sym (walk-here v))
 
   out : get_or s i 0 ≡ c → Walk (replaceAll (c ∷ []) []) s₀ s (i + 1) n
   out e = walk-past v (i + 1) (ap (replaceAll (c ∷ []) []) here ∙ replace-point c [] (get_or s i 0) (drop (i + 1) s₀) e) (omega arith) (omega arith)
@@ -20,7 +20,7 @@ module _ (c : ℕ) {s₀ s : List ℕ} {i n : ℕ} (v : Walk (replaceAll (c ∷ 
       walk-one v (i + 1) (get_or s i 0) (ap (replaceAll (c ∷ []) []) here ∙ replace-other c [] (get_or s i 0) (drop (i + 1) s₀) e) (omega arith) (omega arith)
 
 pub loop-i-init : goal.loop-i-init
-loop-i-init c = walk_start (replaceAll (c.args.c ∷ []) []) c.args.s.now
+loop-i-init c = walk-start (replaceAll (c.args.c ∷ []) []) c.args.s.now
 
 pub loop-i-preserved-then-x-c : goal.loop-i-preserved-then-x-c
 loop-i-preserved-then-x-c c = out c.args.c c.loop-i.invariant c.loop-i-test.true c.if-x-c.true
@@ -41,4 +41,4 @@ pub returns : goal.returns
 returns c =
     let v = c.loop-i.invariant in
     let a = c.args in
-    walk_end v (replace-end (a.c ∷ []) [] a.s.now c.loop-i.i (omega (arith, walk-length v)))
+    walk-end v (replace-end (a.c ∷ []) [] a.s.now c.loop-i.i (omega (arith, walk-length v)))

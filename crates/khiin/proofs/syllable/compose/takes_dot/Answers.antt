@@ -7,12 +7,12 @@ use lib.Dec.{eqb}
 use lib.ListN.{drop, get_or}
 use Rattle.ji.specs.Text.{begins}
 use Rattle.khiin.specs.Compose.{takesDot}
-use Rattle.khiin.proofs.syllable.compose.Laws.{dot_at}
+use Rattle.khiin.proofs.syllable.compose.Laws.{dot-at}
 use Rattle.khiin.proofs.syllable.compose.takes_dot.Goals as goal
 
 -- a rule by the three code points that it may look at
 both : (s : List ℕ) (i : ℕ) {x y : ℕ} → get_or s i 0 ≡ x → get_or s (i + 1) 0 ≡ y → takesDot (drop i s) ≡ takesDot (x ∷ y ∷ get_or s (i + 2) 0 ∷ [])
-both s i e f = dot_at s i ∙ ap₂ (λ (a b : ℕ). takesDot (a ∷ b ∷ get_or s (i + 2) 0 ∷ [])) e f
+both s i e f = dot-at s i ∙ ap₂ (λ (a b : ℕ). takesDot (a ∷ b ∷ get_or s (i + 2) 0 ∷ [])) e f
 
 alone : (b : Bool) → ((b && true) || false) ≡ b
 alone true = refl
@@ -22,9 +22,9 @@ after-capital : (y z : ℕ) → (y ≡ 0x1D3A → ⊥) → (y ≡ 0x207F → ⊥
 unfolding takesDot begins
 after-capital y z a b c d = rw (ne_eqb y 0x1D3A a, ne_eqb y 0x207F b, ne_eqb y 0x48 c, ne_eqb y 0x68 d)
 
-after_small : (y z : ℕ) → (y ≡ 0x207F → ⊥) → (y ≡ 0x68 → ⊥) → takesDot (0x6F ∷ y ∷ z ∷ []) ≡ false
+after-small : (y z : ℕ) → (y ≡ 0x207F → ⊥) → (y ≡ 0x68 → ⊥) → takesDot (0x6F ∷ y ∷ z ∷ []) ≡ false
 unfolding takesDot begins
-after_small y z a b = rw (ne_eqb y 0x207F a, ne_eqb y 0x68 b)
+after-small y z a b = rw (ne_eqb y 0x207F a, ne_eqb y 0x68 b)
 
 after-other : (x y z : ℕ) → (x ≡ 0x4F → ⊥) → (x ≡ 0x6F → ⊥) → takesDot (x ∷ y ∷ z ∷ []) ≡ false
 unfolding takesDot begins
@@ -74,7 +74,7 @@ returns-else-next-eq104-2 c =
     let e = c.at-next.ensures in
     sym
     (both a.s.now a.i (sym c.at-c.ensures ∙ c.if-c-eq111.true) (sym e)
-    ∙ after_small _ (get_or a.s.now (a.i + 2) 0) c.if-next-eq-SMALL_SIGN-2.false c.if-next-eq104-2.false)
+    ∙ after-small _ (get_or a.s.now (a.i + 2) 0) c.if-next-eq-SMALL_SIGN-2.false c.if-next-eq104-2.false)
 
 pub returns-else-c-eq111 : goal.returns-else-c-eq111
 returns-else-c-eq111 c =

@@ -13,7 +13,7 @@ use Rattle.ji.specs.Reply.{pickReply, refused, placed, textReply}
 use Rattle.ji.specs.declared.reply.Refusal.TheVariants.{TooLong}
 use Rattle.ji.specs.declared.reply.TextAnswer.{TextAnswer}
 use Rattle.khiin.specs.Syllable.{encoded}
-use Rattle.khiin.proofs.syllable.marking.Sizes.{no_room, written, no_longer}
+use Rattle.khiin.proofs.syllable.marking.Sizes.{no-room, written, no-longer}
 use Rattle.khiin.proofs.syllable.marking.place_encoded.Goals as goal
 
 short-text : (s before after : List ℕ) (a : TextAnswer) → length s ≤ 803 → textReply a after ≡ exchangedCall unicode16 0x0324 0x030D s before
@@ -26,13 +26,13 @@ pub overflow_add-result : goal.overflow_add-result
 overflow_add-result c =
     let a = c.args in
     let e = short-text a.s.now a.out.now c.place_exchanged.new.out c.place_exchanged.result c.requires c.place_exchanged.ensures in
-    omega (arith, no_longer (encode (encoded unicode16 a.s.now)) a.out.now c.place_exchanged.new.out _ e _ c.in-Done.is, c.well_formed.1.0.1)
+    omega (arith, no-longer (encode (encoded unicode16 a.s.now)) a.out.now c.place_exchanged.new.out _ e _ c.in-Done.is, c.well_formed.1.0.1)
 
 pub returns-in-Refused : goal.returns-in-Refused
 returns-in-Refused c =
     let a = c.args in
     let e = short-text a.s.now a.out.now c.place_exchanged.new.out c.place_exchanged.result c.requires c.place_exchanged.ensures in
-    no_room (encode (encoded unicode16 a.s.now)) a.out.now c.place_exchanged.new.out _ e _ c.in-Refused.is
+    no-room (encode (encoded unicode16 a.s.now)) a.out.now c.place_exchanged.new.out _ e _ c.in-Refused.is
 
 pub returns-in-Done : goal.returns-in-Done
 returns-in-Done c =

@@ -8,7 +8,7 @@ use lib.Seq.{length-take-le}
 use Rattle.ji.specs.Unicode.{unicode16}
 use Rattle.ji.specs.Utf8.{encode}
 use Rattle.ji.specs.Reply.{placed}
-use Rattle.ji.specs.Lomaji.ToneLetter.{toneLetter, place_of}
+use Rattle.ji.specs.Lomaji.ToneLetter.{toneLetter, placeOf}
 use Rattle.ji.specs.declared.lomaji.tone_letter.Place.{Place}
 use Rattle.ji.proofs.lomaji.tone_letter.Laws.{tone-letter-below}
 use Rattle.khiin.specs.Syllable.{encoded, composedAt, composedWith}
@@ -17,8 +17,8 @@ use native.Mathlib.Omega.{arith}
 use Rattle.khiin.proofs.syllable.marking.place_spelled.Goals as goal
 
 -- the place of the tone letter, as the answer has it
-found : (s : List ℕ) (n : ℕ) {p x : Place} → p ≡ x → place_of p ≡ toneLetter (take (n - 0) s) → toneLetter (take n s) ≡ place_of x
-found s n e h = ap (λ (k : ℕ). toneLetter (take k s)) (sym (sub-zero n)) ∙ sym h ∙ ap place_of e
+found : (s : List ℕ) (n : ℕ) {p x : Place} → p ≡ x → placeOf p ≡ toneLetter (take (n - 0) s) → toneLetter (take n s) ≡ placeOf x
+found s n e h = ap (λ (k : ℕ). toneLetter (take k s)) (sym (sub-zero n)) ∙ sym h ∙ ap placeOf e
 
 below : (s : List ℕ) (n k : ℕ) → toneLetter (take n s) ≡ some k → k < n
 below s n k e = omega (arith, tone-letter-below (take n s) k e, length-take n s)

@@ -5,7 +5,7 @@ use Prim.Native.Nat.{ℕ}
 use borrow.Author.Tests.{lt-ltb}
 use Rattle.ji.specs.Text.{points}
 use Rattle.ji.specs.Unicode.{listed}
-use Rattle.ji.proofs.Bools.{false-true, or_yes}
+use Rattle.ji.proofs.Bools.{false-true, or-yes}
 use Rattle.khiin.specs.Compose.{staysBehind}
 use Rattle.khiin.proofs.syllable.marking.stays_behind.Goals as goal
 
@@ -17,7 +17,7 @@ unfolding listed
 dots before e = e
 
 pub returns-then-x-lt192 : goal.returns-then-x-lt192
-returns-then-x-lt192 c = λ e. or_yes _ _ (or_yes _ _ (lt-ltb _ _ c.if-x-lt192.true))
+returns-then-x-lt192 c = λ e. or-yes _ _ (or-yes _ _ (lt-ltb _ _ c.if-x-lt192.true))
 
 pub returns-in-804 : goal.returns-in-804
 returns-in-804 c =
