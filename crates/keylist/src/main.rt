@@ -1,6 +1,8 @@
 // Reads one entry from standard input and prints its keyings.
 #![tactic(auto)]
 
-fn main() {
-    lister::run();
+use std::process::ExitCode;
+
+fn main(rt: HostRuntime) -> ExitCode {
+    lister::run(&rt)
 }

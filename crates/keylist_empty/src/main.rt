@@ -1,6 +1,8 @@
 // `keylist` on an empty line: an entry of one empty part.
 #![tactic(auto)]
 
-fn main() {
-    lister::run();
+use std::process::ExitCode;
+
+fn main(rt: HostRuntime) -> ExitCode {
+    lister::run(&rt)
 }

@@ -1,19 +1,43 @@
--- A block of lines: it is in the buffer, and no more lines than are left.
-use mathlib.Core.Path.{◌≡◌, ap}
-use mathlib.Core.List.{List}
-use Prim.Native.Nat.{ℕ, ◌+◌, ◌-◌, ◌≤◌}
-use native.Mathlib.Omega.{arith}
-use lib.ListN.{length, drop, length-append, length-drop}
+-- Blocks of lines: each has no more lines than are left, and starts where the one before it ends.
+use Rattle.std.proofs.Common.{Option, Some, None, IfSome, option_map, ◌≡◌, ℕ, ◌+◌, ◌-◌, ◌≤◌, List, [], ◌++◌, length, take, drop, sym, ap, ◌∙◌, arith, length-drop, take-append-drop, take-add, append-nil}
 use Rattle.ji.specs.Unicode.{unicode16}
-use Rattle.ji.specs.Reply.{over}
-use Rattle.khiin_entries.specs.Listing.{listing, shown}
-use Rattle.khiin_entries.proofs.listing.Fitting.{fit-most, going-count}
-
-pub block-inside : (text before after : List ℕ) (len : ℕ) → len ≡ length text → after ≡ over text before → length after ≡ length before → len ≤ length after
-block-inside text before after len l is same = omega (arith, ap length is, length-append text (drop (length text) before), length-drop (length text) before)
+use Rattle.khiin_entries.specs.Listing.{listing, together, fitting, goingIn, shown}
+use Rattle.khiin_entries.proofs.listing.Fitting.{together-append, fit-most, going-count}
+use Rattle.lister.proofs.Short.{short-drop, listing-short, none-left}
 
 pub next-inside : (entry : List ℕ) (from room next : ℕ) → next ≡ from + length (shown unicode16 entry from room) → (from ≤ next) × (next ≤ from + (length (listing unicode16 entry) - from))
 unfolding shown
 next-inside entry from room next e =
     let left = drop from (listing unicode16 entry) in
     (omega arith, omega (arith, e, going-count left room, fit-most left room, length-drop from (listing unicode16 entry)))
+
+module _ (entry : List ℕ) where
+  abbrev ls : List (List ℕ)
+  ls = listing unicode16 entry
+
+  -- a block is known by its size
+  pub next_sized : (from next size room : ℕ) → size ≡ room → next ≡ from + length (shown unicode16 entry from size) → next ≡ from + length (shown unicode16 entry from room)
+  next_sized from next size room s e = e ∙ ap (λ (n : ℕ). from + length (shown unicode16 entry from n)) s
+
+  -- the lines of a block, behind those that were printed before it
+  pub printed-further : (from room next : ℕ) → next ≡ from + length (shown unicode16 entry from room) → together (take from ls) ++ together (shown unicode16 entry from room) ≡ together (take next ls)
+  unfolding shown goingIn
+  printed-further from room next e =
+      let k = fitting (drop from ls) room in
+      let n : next ≡ from + k = e ∙ ap (λ (m : ℕ). from + m) (going-count (drop from ls) room) in
+      sym (ap (λ (m : ℕ). together (take m ls)) n ∙ ap together (take-add from k ls) ∙ together-append (take from ls) (take k (drop from ls)))
+
+  -- where a block has no line, all were printed
+  pub printed-all : (from next : ℕ) → next ≡ from + length (shown unicode16 entry from 65536) → next ≤ from → together (take next ls) ≡ together ls
+  unfolding shown
+  printed-all from next e h =
+      let none : drop from ls ≡ [] = none-left (drop from ls) 65536 (short-drop 65536 from ls (listing-short entry)) (omega (arith, e, going-count (drop from ls) 65536)) in
+      let last : next ≡ from = omega arith in
+      ap (λ (m : ℕ). together (take m ls)) last
+      ∙ ap together (sym (append-nil (take from ls)) ∙ ap (λ (l : List (List ℕ)). take from ls ++ l) (sym none) ∙ take-append-drop from ls)
+
+-- ── what is read
+-- a reader that gives at most `limit` bytes of those that it has
+pub limited : (known : Option (List ℕ)) (limit n : ℕ) (front text : List ℕ) → front ≡ [] → limit ≡ n → IfSome (option_map (take limit) known) (λ xs. text ≡ front ++ xs) → IfSome known (λ input. text ≡ take n input)
+limited None limit n front text f e h = tt
+limited (Some input) limit n front text f e h = h ∙ ap (λ (l : List ℕ). l ++ take limit input) f ∙ ap (λ (m : ℕ). take m input) e

@@ -1,13 +1,41 @@
 // Reads an entry from standard input and prints its listing: what the program `keylist` does, and others do on inputs of their own. No contract can
-// say what is read and written, so only what is made of the text has one.
+// say which bytes the system gives and takes. What becomes of them is said for any reader and writer of known bytes.
 #![tactic(auto)]
 
-ghost use Rattle.std.specs.Prelude.{◌≡◌, ◌+◌, ◌-◌, ◌≤◌, length};
+#[cfg(test)]
+mod tests;
+
+ghost use Rattle.std.specs.Prelude.{◌≡◌, ◌+◌, ◌-◌, ◌≤◌, length, take, IfOk, IfSome, OnOk, OnErr};
+ghost use Rattle.std.specs.Io.KnownBytes.{Appends};
+ghost use Rattle.std.specs.Process.{exit_status};
 ghost use Rattle.ji.specs.Unicode.{unicode16};
-ghost use Rattle.khiin_entries.specs.Listing.{listing};
-ghost use Rattle.lister.specs.Text.{withoutNewline};
+ghost use Rattle.khiin_entries.specs.Listing.{listing, shown, together};
+ghost use Rattle.lister.specs.Text.{withoutNewline, entryIn, printed};
 
 use khiin_entries::listing;
+use std::alloc::Global;
+use std::io::{Read, Write};
+use std::process::ExitCode;
+use std::{fmt, io};
+
+// An entry has at most 1,024 bytes: one more byte than that, and a newline, is enough to see that it is too long.
+const MOST: u64 = 1026;
+
+// What did not go through, and why.
+#[derive(Debug, Drop)]
+pub enum Failure {
+    Unread(io::Error),
+    Unwritten(io::Error),
+}
+
+impl fmt::Display for Failure {
+    fn fmt<W: fmt::Write>(&self, f: &mut fmt::Formatter<W>) -> fmt::Result {
+        match self {
+            Failure::Unread(why) => write!(f, "the entry could not be read: {why}"),
+            Failure::Unwritten(why) => write!(f, "the listing could not be written: {why}"),
+        }
+    }
+}
 
 // The text without one final newline.
 fn without_newline(text: &[u8]) -> &[u8]
@@ -24,36 +52,79 @@ fn without_newline(text: &[u8]) -> &[u8]
     text
 }
 
-// Writes a block of lines from number `from` on, and returns the number of the next line: the same, where no line is left or none can be written.
-fn print_block(entry: &[u8], from: u64, block: &mut [u8]) -> u64
-    ensures { (from ≤ result) × (result ≤ from + (length (listing unicode16 entry.now) - from)) }
+// Reads as much as an entry and a newline may have, and one byte more.
+fn read_text<R: Read + Drop>(reader: R, alloc: Global) -> io::Result<Vec<u8>>
+    ensures { IfOk result (λ text. IfSome (R.remaining reader) (λ input. text.items ≡ take 1026 input)) }
+{
+    let mut text = Vec::new(alloc);
+    reader.take(MOST).read_to_end(&mut text)?;
+    Ok(text)
+}
+
+// Writes a block of lines from number `from` on, and returns the number of the next line: the same, where no line is left.
+fn print_block<W: Write>(
+    writer: &mut W,
+    entry: &[u8],
+    from: u64,
+    block: &mut [u8],
+) -> io::Result<u64>
+    ensures range { IfOk result (λ next. (from ≤ next) × (next ≤ from + (length (listing unicode16 entry.now) - from))) }
+    ensures next { IfOk result (λ next. next ≡ from + length (shown unicode16 entry.now from (length block.old))) }
+    ensures written { OnOk result (Appends (W.contents writer.old) (W.contents writer.new) (together (shown unicode16 entry.now from (length block.old)))) }
 {
     let listed = listing::list(entry, from, block);
     let len = listed.len;
     let n = len.0;
-    if io::write_all(1, &block[0..n]) {
-        return listed.next;
-    }
-    from
+    writer.write_all(&block[0..n])?;
+    Ok(listed.next)
 }
 
-// Writes the whole listing.
-fn print_listing(entry: &[u8]) {
+// Writes the whole listing. A line is shorter than a block, so each block but the last has some.
+fn print_listing<W: Write>(writer: &mut W, entry: &[u8]) -> io::Result<()>
+    ensures { OnOk result (Appends (W.contents writer.old) (W.contents writer.new) (printed entry.now)) }
+{
     let mut block = [0u8; 65536];
     let mut from: u64 = 0;
-    let mut next = print_block(entry, from, &mut block);
+    let mut next = print_block(writer, entry, from, &mut block)?;
     while from < next {
         from = next;
-        next = print_block(entry, from, &mut block);
+        next = print_block(writer, entry, from, &mut block)?;
+    }
+    Ok(())
+}
+
+// Reads an entry and writes its listing.
+pub fn list_entry<R: Read + Drop, W: Write>(
+    reader: R,
+    writer: &mut W,
+    alloc: Global,
+) -> Result<(), Failure>
+    ensures { OnOk result (IfSome (R.remaining reader) (λ input. Appends (W.contents writer.old) (W.contents writer.new) (printed (entryIn input)))) }
+{
+    let text = read_text(reader, alloc).map_err(Failure::Unread)?;
+    let entry = without_newline(text.as_slice());
+    print_listing(writer, entry).map_err(Failure::Unwritten)
+}
+
+// Says on standard error what failed, and gives the program's status.
+fn report(rt: &impl Eprint, listed: Result<(), Failure>) -> ExitCode
+    ensures done { OnOk listed (exit_status result ≡ 0) }
+    ensures failed { OnErr listed (exit_status result ≡ 1) }
+{
+    match listed {
+        Ok(()) => ExitCode::SUCCESS,
+        Err(failure) => {
+            // Where that line cannot be written either, the status alone is left to tell.
+            let _ = eprintln!(rt; "keylist: {failure}");
+            ExitCode::FAILURE
+        }
     }
 }
 
-// Reads an entry and prints its listing. An entry has at most 1,024 bytes: one more byte than that, and a newline, is enough to see that it is too long.
-// There is no argument, result or buffer of which the contract could say more.
-pub fn run()
-    ensures { result ≡ tt }
+// Reads an entry from standard input and prints its listing.
+pub fn run(rt: &(impl Input + Print + Eprint + AllocGlobal)) -> ExitCode
+    ensures { exit_status result ≤ 1 }
 {
-    let mut text = [0u8; 1026];
-    let n = io::read_full(0, &mut text);
-    print_listing(without_newline(&text[0..n]));
+    let listed = list_entry(rt.reader(), &mut io::writer(rt), rt.alloc());
+    report(rt, listed)
 }

@@ -1,5 +1,5 @@
 -- The numbers of a record's header, which is the first 36 bytes of the record.
-use Rattle.std.specs.Prelude.{Bool, ◌&&◌, ◌||◌, List, ℕ, ◌+◌, ◌*◌, leb, eqb, get_or}
+use Rattle.std.specs.Prelude.{Bool, ◌&&◌, List, ℕ, ◌+◌, ◌*◌, leb, get_or}
 use Rattle.replay.specs.declared.record.Header.{Header}
 
 -- the number in two bytes, the low one first

@@ -66,7 +66,7 @@ pub(crate) fn is_as_said(h: Header, wanted: &[u8], reply: Reply, buffer: &[u8]) 
     if buffer.len() < n {
         return false;
     }
-    if !check::same(&buffer[..n], wanted) {
+    if &buffer[..n] != wanted {
         return false;
     }
     is_untouched(&buffer[n..])

@@ -15,6 +15,7 @@ ghost use Rattle.replay.specs.Replay.{Agrees};
 use crate::calls::answer;
 use crate::expected::{fresh_buffer, is_as_said};
 use crate::record::Header;
+use std::io;
 
 // Whether the call of a record replies as the record says. `body` is the record behind its header.
 fn agrees(h: Header, body: &[u8]) -> bool
@@ -29,6 +30,6 @@ fn agrees(h: Header, body: &[u8]) -> bool
     is_as_said(h, &body[middle..end], reply, &buffer)
 }
 
-fn main() {
-    program::run();
+fn main(rt: HostRuntime) -> io::Result<()> {
+    program::run(&rt)
 }

@@ -1,10 +1,32 @@
 // The program: reads a list from standard input, one record after the other, and replays each. Then it writes how many records there were
-// of each call, and how many differed. No contract can say what is read and written, so only `replay_body` has one.
-ghost use Rattle.std.specs.Prelude.{◌≡◌, true, ◌+◌, length};
+// of each call, and how many differed. No contract can say what standard input holds, so they speak of what was read.
+ghost use Rattle.std.specs.Prelude.{◌≡◌, true, ◌+◌, length, IfOk};
+ghost use Rattle.std.specs.Bool.{OnTrue};
+ghost use Rattle.std.specs.Io.KnownBytes.{Consumes};
 ghost use Rattle.replay.specs.Record.{replayable};
+ghost use Rattle.replay.specs.Replay.{Judges};
 
 use crate::record::Header;
 use crate::{agrees, record};
+use std::io;
+use std::io::{BufRead, BufReader, ErrorKind, Read};
+
+// The calls by their numbers.
+const NAMES: [&str; 13] = [
+    "strip",
+    "tone_letter",
+    "nfd",
+    "nfc",
+    "strip_khin",
+    "has_tone_letter",
+    "keys",
+    "from_raw",
+    "compose",
+    "candidate",
+    "keying",
+    "telex",
+    "align",
+];
 
 // What one record of the list came to: the call and whether it replied as the record says.
 #[derive(Clone, Copy)]
@@ -24,38 +46,48 @@ struct Tally {
     malformed: u64,
 }
 
-// Reads what stands behind a header, and replays the record.
-fn replay_body(h: Header, body: &mut [u8]) -> Outcome
-    requires { (replayable h ≡ true) × (h.input + h.other + h.wanted ≡ length body.old) }
+// Fills the buffer, and says whether the input had that much.
+fn fill<R: Read>(reader: &mut R, buffer: &mut [u8]) -> io::Result<bool>
+    ensures { IfOk result (λ full. OnTrue full (Consumes (R.remaining reader.old) (R.remaining reader.new) buffer.new)) }
 {
-    let size = body.len();
-    if io::read_full(0, body) < size {
-        return Outcome::Malformed;
+    match reader.read_exact(buffer) {
+        Ok(()) => Ok(true),
+        Err(e) if e.kind() == ErrorKind::UnexpectedEof => Ok(false),
+        Err(e) => Err(e),
+    }
+}
+
+// Reads what stands behind a header, and replays the record.
+fn replay_body<R: Read>(reader: &mut R, h: Header, body: &mut [u8]) -> io::Result<Outcome>
+    requires { (replayable h ≡ true) × (h.input + h.other + h.wanted ≡ length body.old) }
+    ensures { IfOk result (Judges h body.new) }
+{
+    if !fill(reader, body)? {
+        return Ok(Outcome::Malformed);
     }
     if agrees(h, body) {
-        Outcome::Same(h.call)
+        Ok(Outcome::Same(h.call))
     } else {
-        Outcome::Different(h.call)
+        Ok(Outcome::Different(h.call))
     }
 }
 
 // Reads one record, and replays it.
-fn replay_one() -> Outcome {
-    let mut header = [0u8; 36];
-    let got = io::read_full(0, &mut header);
-    if got == 0 {
-        return Outcome::End;
+fn replay_one<R: BufRead>(reader: &mut R) -> io::Result<Outcome> {
+    if reader.fill_buf()?.is_empty() {
+        return Ok(Outcome::End);
     }
-    if got < 36 {
-        return Outcome::Malformed;
+    let mut header = [0u8; 36];
+    if !fill(reader, &mut header)? {
+        return Ok(Outcome::Malformed);
     }
     let h = record::read(&header);
     if !record::is_replayable(h) {
-        return Outcome::Malformed;
+        return Ok(Outcome::Malformed);
     }
     let size = h.input + h.other + h.wanted;
     let mut body = [0u8; 9216];
-    replay_body(h, &mut body[..size])
+    replay_body(reader, h, &mut body[..size])
 }
 
 // One more, as far as a number goes.
@@ -77,54 +109,33 @@ fn counted(mut t: Tally, call: u8, difference: bool) -> Tally {
     t
 }
 
-fn replay_all() -> Tally {
+fn replay_all<R: BufRead>(reader: &mut R) -> io::Result<Tally> {
     let mut t = Tally {
         records: [0; 13],
         different: [0; 13],
         malformed: 0,
     };
-    // A proved loop has to end, and nothing says that the input does. So the loop counts its turns down, from a number that no run uses up.
-    let mut turns = u64::MAX;
-    while turns > 0 {
-        turns -= 1;
-        match replay_one() {
+    // A proved loop has to end, and nothing says that the input does. So the loop counts its turns, to a number that no run comes to.
+    for _ in 0..u64::MAX {
+        match replay_one(reader)? {
             Outcome::Same(call) => t = counted(t, call, false),
             Outcome::Different(call) => t = counted(t, call, true),
-            Outcome::Malformed => turns = 0,
-            Outcome::End => return t,
+            Outcome::Malformed => break,
+            Outcome::End => return Ok(t),
         }
     }
     t.malformed = 1;
-    t
+    Ok(t)
 }
 
-fn print_line(name: &[u8], records: u64, different: u64) {
-    io::write_all(1, name);
-    io::write_all(1, b" ");
-    io::print_decimal(1, records);
-    io::write_all(1, b" ");
-    io::print_decimal(1, different);
-    io::write_all(1, b"\n");
-}
-
-pub(crate) fn run() {
-    let t = replay_all();
-    let all = t.records;
-    let different = t.different;
-    print_line(b"strip", all[0], different[0]);
-    print_line(b"tone_letter", all[1], different[1]);
-    print_line(b"nfd", all[2], different[2]);
-    print_line(b"nfc", all[3], different[3]);
-    print_line(b"strip_khin", all[4], different[4]);
-    print_line(b"has_tone_letter", all[5], different[5]);
-    print_line(b"keys", all[6], different[6]);
-    print_line(b"from_raw", all[7], different[7]);
-    print_line(b"compose", all[8], different[8]);
-    print_line(b"candidate", all[9], different[9]);
-    print_line(b"keying", all[10], different[10]);
-    print_line(b"telex", all[11], different[11]);
-    print_line(b"align", all[12], different[12]);
-    io::write_all(1, b"malformed ");
-    io::print_decimal(1, t.malformed);
-    io::write_all(1, b"\n");
+pub(crate) fn run(rt: &(impl Input + Print + Alloc)) -> io::Result<()> {
+    let mut reader = BufReader::new(rt.alloc(), rt.reader())?;
+    let t = replay_all(&mut reader)?;
+    for (i, name) in NAMES.iter().enumerate() {
+        let all = t.records[i];
+        let different = t.different[i];
+        println!(rt; "{name} {all} {different}")?;
+    }
+    let malformed = t.malformed;
+    println!(rt; "malformed {malformed}")
 }
