@@ -94,7 +94,7 @@ def main():
     found = []
     for path, lines in texts.items():
         answers = path.name in ("Answers.antt", "Invariants.antt")
-        if path.name.endswith("Examples.antt") or path.is_relative_to(ROOT / "crates/examples"):
+        if path.name in ("tests.rt",) or path.name.endswith("Examples.antt") or path.is_relative_to(ROOT / "crates/examples"):
             continue
         for name, numbers in declared(path, lines).items():
             code = path.suffix == ".rt"

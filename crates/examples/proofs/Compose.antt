@@ -3,7 +3,7 @@ use mathlib.Core.Path.{◌≡◌, refl}
 use mathlib.Core.List.{List, [], ◌∷◌, ◌++◌}
 use Prim.Native.Nat.{ℕ}
 use Rattle.ji.specs.Unicode.{unicode16, mappings16, classes16, exclusions16, mappingIn, classIn, decomposition, combiningClass, isComposite, compositeIn, composite, pass, passes, full, same, listed}
-use Rattle.ji.specs.Text.{points, marked, lower, begins, replaceFrom, replaceAll, butLast, last}
+use Rattle.ji.specs.Text.{points, lower, begins, replaceFrom, replaceAll, butLast, last}
 use Rattle.ji.specs.Nfd.{reorderable, insert, order, nfd}
 use Rattle.ji.specs.Nfc.{behind, under, orKept, reversed, absorb, composeFrom, compose as joined, nfc}
 use Rattle.ji.specs.Lomaji.ToneLetter.{firstPlace, searched, toneLetter}

@@ -3,15 +3,14 @@ use mathlib.Core.Path.{◌≡◌, refl}
 use mathlib.Core.List.{List, [], ◌∷◌}
 use Prim.Native.Nat.{ℕ}
 use Rattle.ji.specs.Unicode.{unicode16, mappings16, classes16, mappingIn, classIn, decomposition, combiningClass, pass, passes, full, same, listed}
-use Rattle.ji.specs.Text.{points, marked, lower, begins, replaceFrom, replaceAll, butLast, last}
+use Rattle.ji.specs.Text.{lower, begins, replaceFrom, replaceAll, butLast, last}
 use Rattle.ji.specs.Utf8.{bytesOf, encode}
 use Rattle.ji.specs.Nfd.{reorderable, insert, order, nfd}
 use Rattle.ji.specs.Lomaji.Strip.{markTone, isToneMark, withoutMarks, droppedMarks, lastTone, endsIn, unmarkedTone, stripped}
 use Rattle.ji.specs.Lomaji.Khin.{withoutKhin, khinIn}
 use Rattle.ji.specs.declared.tone.Tone.{Tone}
-use Rattle.ji.specs.declared.tone.Tone.TheVariants.{None, T1, T2, T4, T8}
 use Rattle.ji.specs.declared.lomaji.khin.Khin.{Khin}
-use Rattle.ji.specs.declared.lomaji.khin.Khin.TheVariants.{No, Yes}
+use Rattle.ji.specs.declared.lomaji.khin.Khin.TheVariants.{No}
 use Rattle.khiin_records.specs.Syllable.{Syllable, keyTone, fromRaw, fromComposed}
 use Rattle.khiin_records.specs.Alignment.{sharedPrefix, longer, nearest, grows, alignedWith, aligned}
 use Rattle.examples.specs.Records.{Raw, fromKeys, Composed, candidates, Aligned, alignments}

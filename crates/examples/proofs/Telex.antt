@@ -1,9 +1,8 @@
 -- Examples of the telex step (document 01, "Starred examples", and cases that its rules decide), computed: at least one for each branch.
 use mathlib.Core.Path.{◌≡◌, refl}
-use mathlib.Core.List.{List, [], ◌∷◌, ◌++◌}
-use Prim.Native.Nat.{ℕ}
+use mathlib.Core.List.{List, [], ◌∷◌}
 use Rattle.ji.specs.Unicode.{unicode16, mappings16, classes16, exclusions16, mappingIn, classIn, decomposition, combiningClass, isComposite, compositeIn, composite, pass, passes, full, same, listed}
-use Rattle.ji.specs.Text.{points, marked, point, lower, begins, replaceFrom, replaceAll, butLast, last}
+use Rattle.ji.specs.Text.{lower, begins, replaceFrom, replaceAll, butLast, last}
 use Rattle.ji.specs.Utf8.{bytesOf, encode}
 use Rattle.ji.specs.Nfd.{reorderable, insert, order, nfd}
 use Rattle.ji.specs.Nfc.{behind, under, orKept, reversed, absorb, composeFrom, nfc}

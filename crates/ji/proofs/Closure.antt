@@ -1,6 +1,6 @@
 -- "NFD and NFC stay inside" (document 01, "ji: the table"): both forms of a text of a table are texts of the table, for any table that passes
 -- its test, and so for the one in use. The laws of both forms at the table in use stand here too, for the crates above.
-use mathlib.Core.Path.{◌≡◌, refl}
+use mathlib.Core.Path.{◌≡◌}
 use mathlib.Core.List.{List}
 use Prim.Native.Nat.{ℕ}
 use lib.Dec.{T}

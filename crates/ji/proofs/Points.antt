@@ -7,7 +7,7 @@ use lib.ListN.{length, drop, get_or}
 use Rattle.ucd.specs.Unicode16.{unicode16}
 use Rattle.ji.specs.Written.{Written}
 use Rattle.ji.specs.Utf8.{decode}
-use Rattle.ji.specs.Reply.{Reply, refusalNumber, refused, answered, Checked, good, bad, checkPoints}
+use Rattle.ji.specs.Reply.{Reply, refusalNumber, answered, Checked, good, bad, checkPoints}
 use Rattle.ji.specs.Reading.{pointsReply, pointsOf, pointsCall}
 use Rattle.ji.specs.declared.reply.Refusal.{Refusal}
 use Rattle.ji.specs.declared.reply.Refusal.TheVariants.{Argument, TooLong, IllFormed, OutsideTable, Parts, Position, NoRoom}

@@ -8,9 +8,8 @@ use borrow.Author.Tests.{le-leb, lt-leb}
 use lib.ListN.{length, take, drop}
 use Rattle.ucd.specs.Table.{Table}
 use Rattle.ji.specs.Written.{Written}
-use Rattle.ji.specs.Unicode.{accepted, spread}
+use Rattle.ji.specs.Unicode.{spread}
 use Rattle.ji.specs.Nfd.{order, nfd}
-use Rattle.ji.specs.Reply.{over, good, bad, checkText}
 use Rattle.ji.specs.Reading.{Reading, NfdReading}
 use Rattle.ji.specs.declared.reply.Refusal.{Refusal}
 use Rattle.ji.specs.declared.reply.Refusal.TheVariants.{TooLong}

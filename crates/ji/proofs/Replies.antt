@@ -1,8 +1,7 @@
 -- Replies, case by case: where a text is refused, and where an output has room.
-use mathlib.Core.Path.{◌≡◌, sym, ap, ◌∙◌}
+use mathlib.Core.Path.{◌≡◌, sym, ap}
 use mathlib.Core.Bool.{Bool}
 use mathlib.Core.List.{List}
-use mathlib.Core.Option.{Option}
 use Prim.Native.Nat.{ℕ, ◌≤◌, ◌<◌}
 use native.Mathlib.Omega.{arith}
 use lib.ListN.{length}
@@ -10,7 +9,7 @@ use borrow.Author.Tests.{le-leb, lt-leb}
 use Rattle.ucd.specs.Table.{Table}
 use Rattle.ji.specs.Written.{Written}
 use Rattle.ji.specs.Utf8.{decode, encode}
-use Rattle.ji.specs.Reply.{Reply, refusalNumber, refused, over, answered, pickReply, placed, Checked, good, bad, pickChecked, checkPoints, checkWithin, checkText, textOf, textCall}
+use Rattle.ji.specs.Reply.{Reply, refusalNumber, refused, answered, pickReply, placed, Checked, good, bad, pickChecked, checkPoints, checkWithin, checkText, textOf, textCall}
 use Rattle.ji.specs.declared.reply.Refusal.{Refusal}
 use Rattle.ji.specs.declared.reply.Refusal.TheVariants.{Argument, TooLong, IllFormed, OutsideTable, Parts, Position, NoRoom}
 

@@ -1,5 +1,5 @@
 -- What the reader of a text does with its buffer of code points: the text is checked while it is read.
-use Rattle.std.specs.Prelude.{◌≡◌, Bool, true, false, List, [], ◌∷◌, length, ℕ, ◌*◌, ◌/◌, ◌≤◌, ◌<◌, leb}
+use Rattle.std.specs.Prelude.{◌≡◌, Bool, true, List, [], ◌∷◌, length, ℕ, leb}
 use Rattle.ucd.specs.Table.{Table, pickText}
 use Rattle.ji.specs.Written.{Written}
 use Rattle.ji.specs.Utf8.{decode}

@@ -1,5 +1,5 @@
 -- Texts of the table: which texts it has, what a reader of bytes takes, and lengths in bytes and in code points (`to_byte_len`).
-use Rattle.std.specs.Prelude.{Bool, true, false, ◌&&◌, List, [], ◌∷◌, ◌++◌, ℕ, zero, suc, ◌-◌, eqb, length, take}
+use Rattle.std.specs.Prelude.{Bool, true, false, ◌&&◌, List, [], ◌∷◌, ℕ, zero, suc, ◌-◌, eqb, length, take}
 pub use Rattle.ucd.specs.Table.{Table, member, pickText}
 unfoldable pub use Rattle.ucd.specs.Full.{pass, passes, full}
 -- what the crates above need of the table: they know it through this crate alone

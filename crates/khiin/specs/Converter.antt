@@ -1,5 +1,5 @@
 -- The telex step (document 01, "khiin: the telex step"): `convert_to_telex`, its text only. Each branch is a definition, in the order of 003.
-use Rattle.std.specs.Prelude.{Bool, true, false, not, ◌&&◌, ◌||◌, List, [], ◌∷◌, ◌++◌, map, ℕ, ◌-◌, eqb, length, drop}
+use Rattle.std.specs.Prelude.{Bool, not, ◌&&◌, ◌||◌, List, [], ◌∷◌, ◌++◌, map, ℕ, ◌-◌, eqb, length, drop}
 use Rattle.ji.specs.Unicode.{Table, pickText, pickNumber, listed, same}
 use Rattle.ji.specs.Text.{points, marked, point, within, lower, butLast, last}
 use Rattle.ji.specs.Tone.{toneNumber, pickTone, isTone}

@@ -1,5 +1,5 @@
 -- `compose` (document 01, "khiin: Syllable"). Texts are code points; what the call hands over are their bytes.
-use Rattle.std.specs.Prelude.{Bool, true, false, ◌&&◌, List, [], ◌∷◌, ◌++◌, ℕ, ◌+◌, ◌-◌, eqb, length, take, drop}
+use Rattle.std.specs.Prelude.{Bool, false, ◌&&◌, List, [], ◌∷◌, ◌++◌, ℕ, ◌+◌, ◌-◌, eqb, length, take, drop}
 use Rattle.std.proofs.Math.Option.{Option, none, some}
 use Rattle.ji.specs.Unicode.{Table, pickText, listed}
 use Rattle.ji.specs.Text.{points, marked, point, lower, last, replaceAll}
@@ -84,7 +84,7 @@ encoded t s = replaceAll (0x0324 ∷ 0x030D ∷ []) (0x030D ∷ 0x0324 ∷ []) (
 
 -- "Tones 0, 1, 4 add no mark": the mark of a tone, or none
 abbrev pub marksIn : List (ℕ × Tone) → Tone → List ℕ
-marksIn [] tone = []
+marksIn [] _ = []
 marksIn (m ∷ ms) tone = pickText (eqb (toneNumber m.1) (toneNumber tone)) (m.0 ∷ []) (marksIn ms tone)
 
 unfoldable pub mark_of : Tone → List ℕ
@@ -107,8 +107,8 @@ compose t rawInput body tone khin = composedWith t rawInput (khinText khin ++ sp
 -- "With two texts, the first passes 2 to 4 before the second. Compose takes raw input first, then body"
 abbrev pub composeOf : Table → Tone → Khin → Checked → Checked → List ℕ → Reply
 composeOf t tone khin (good rawInput) (good body) buffer = placed 0 (encode (compose t rawInput body tone khin)) buffer
-composeOf t tone khin (good rawInput) (bad why) buffer = refused why buffer
-composeOf t tone khin (bad why) body buffer = refused why buffer
+composeOf t _ khin (good rawInput) (bad why) buffer = refused why buffer
+composeOf t _ khin (bad why) body buffer = refused why buffer
 
 unfoldable pub composeCall : Table → List ℕ → List ℕ → Tone → Khin → List ℕ → Reply
 composeCall t rawInput body tone khin buffer = composeOf t tone khin (checkText t rawInput) (checkText t body) buffer

@@ -51,9 +51,9 @@ composedOf t k key tone rest =
     (bare t key rest)
 
 abbrev pub edited : Table → ToneKeys → Edit → ℕ → Tone → List ℕ → List ℕ
-edited t k Behind key tone rest = rest ++ (key ∷ [])
-edited t k Last key tone rest = butLast 1 rest ++ (key ∷ [])
-edited t k LastTwo key tone rest = butLast 2 rest ++ (eLike key ∷ key ∷ [])
+edited t k Behind key _ rest = rest ++ (key ∷ [])
+edited t k Last key _ rest = butLast 1 rest ++ (key ∷ [])
+edited t k LastTwo key _ rest = butLast 2 rest ++ (eLike key ∷ key ∷ [])
 edited t k Compose key tone rest = composedOf t k key tone rest
 
 -- the step with the keys that the mode leaves

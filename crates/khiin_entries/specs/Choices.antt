@@ -1,6 +1,6 @@
 -- What the code keeps of an entry (document 01, "khiin: entries"): the bytes of each part's forms in one buffer, and of each part's choices the
 -- place there and the length. "up to sixteen parts with four choices each .. for mixed-radix positions".
-use Rattle.std.specs.Prelude.{◌≡◌, Bool, true, false, ◌&&◌, ◌||◌, List, [], ◌∷◌, ◌++◌, map, ◌⊎◌, ℕ, zero, suc, ◌+◌, ◌-◌, ◌*◌, ◌/◌, ◌%◌, ◌≤◌, ◌<◌, leb, ltb, eqb, length, take, drop, get_or}
+use Rattle.std.specs.Prelude.{◌≡◌, Bool, true, false, ◌&&◌, List, [], ◌∷◌, ◌++◌, map, ◌⊎◌, ℕ, zero, suc, ◌+◌, ◌-◌, ◌*◌, ◌/◌, ◌%◌, ◌≤◌, ◌<◌, leb, ltb, eqb, length, take, drop, get_or}
 use Rattle.std.proofs.Math.Option.{Option, none, some}
 use Rattle.ji.specs.Unicode.{Table, unicode16, pickNumber}
 use Rattle.ji.specs.Utf8.{decode, encode}

@@ -1,34 +1,34 @@
 -- Records: what the code has of one is the reply that gives it, and from_raw's record of keys.
 use mathlib.Core.Path.{◌≡◌, refl, sym, ap, ap₂, ◌∙◌}
-use mathlib.Core.Bool.{Bool, true, false, ◌&&◌}
+use mathlib.Core.Bool.{Bool, true, false}
 use mathlib.Core.List.{List, [], ◌∷◌, ◌++◌, append-nil}
 use Prim.Native.Nat.{ℕ, zero, suc, ◌+◌, ◌-◌, ◌≤◌, ◌<◌}
 use native.Mathlib.Omega.{arith}
-use borrow.Author.Tests.{le-leb, lt-leb, leb-true, ne_eqb}
-use lib.Dec.{leb, eqb}
-use lib.ListN.{length, take, drop, get_or, drop_of_length-le, take-append-drop, length-append}
-use lib.Seq.{drop-cons, length-take-le}
+use borrow.Author.Tests.{le-leb, lt-leb, ne_eqb}
+use lib.Dec.{leb}
+use lib.ListN.{length, take, drop, length-append}
+use lib.Seq.{length-take-le}
 use Rattle.ji.specs.Unicode.{unicode16, member, members, listed, pickText}
 use Rattle.ji.specs.Text.{points, begins, allAscii, butLast, last}
-use Rattle.ji.specs.Utf8.{decode, encode}
-use Rattle.ji.specs.Tone.{toneNumber, isTone, pickTone}
-use Rattle.ji.specs.Reply.{Reply, refused, refusalNumber, over, pickReply, answered, placed, Checked, good, bad, pickChecked, checkPoints}
+use Rattle.ji.specs.Utf8.{encode}
+use Rattle.ji.specs.Tone.{isTone, pickTone}
+use Rattle.ji.specs.Reply.{Reply, refused, over, pickReply, answered, placed, good, bad, pickChecked}
 use Rattle.ji.specs.Lomaji.Khin.{khinNumber, withoutKhin}
 use Rattle.ji.specs.Lomaji.Strip.{toneIn}
 use Rattle.ji.specs.declared.reply.Refusal.{Refusal}
-use Rattle.ji.specs.declared.reply.Refusal.TheVariants.{Argument, TooLong, IllFormed, OutsideTable, Parts, Position, NoRoom}
+use Rattle.ji.specs.declared.reply.Refusal.TheVariants.{TooLong, OutsideTable, Position, NoRoom}
 use Rattle.ji.specs.declared.tone.Tone.{Tone}
 use Rattle.ji.specs.declared.tone.Tone.TheVariants.{None, T1, T2, T3, T4, T5, T6, T7, T8, T9}
 use Rattle.ji.specs.declared.lomaji.khin.Khin.{Khin}
 use Rattle.ji.specs.declared.lomaji.khin.Khin.TheVariants.{No, Yes}
-use Rattle.ji.proofs.Bools.{either, false-true, and-yes, and-left, and-right, text-yes, text-no}
+use Rattle.ji.proofs.Bools.{either, false-true, and-right, text-yes, text-no}
 use Rattle.ji.proofs.Replies.{refusal-some}
 use Rattle.ji.proofs.unicode.Ascii.{ascii-bytes, ascii-take}
 use Rattle.ji.proofs.unicode.Bytes.{but-last, encode-append}
 use Rattle.khiin_records.specs.Syllable.{Syllable, raw, pickSyllable, toneDigits, keyTone, fromRaw, checkKeys, recorded, placedRecord, recordReply, toneDigit, khinKey, candidate, pickSyllables, candidatesOf, candidateIn}
 use Rattle.khiin_records.specs.Records.{RecordOf}
 use Rattle.khiin_records.specs.declared.Record.{Record}
-use Rattle.khiin_records.specs.declared.Recorded.TheVariants.{Done, Refused}
+use Rattle.khiin_records.specs.declared.Recorded.TheVariants.{Done}
 
 -- ── what a writer of the raw input left is the record's reply
 -- the reply that a text in the buffer makes

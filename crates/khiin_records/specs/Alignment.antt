@@ -1,5 +1,5 @@
 -- `from_conversion_alignment` (document 01, "khiin: Syllable"): how many of the raw keys were typed for the syllable `target`.
-use Rattle.std.specs.Prelude.{Bool, true, false, ◌&&◌, List, [], ◌∷◌, ℕ, suc, ◌+◌, leb, eqb, take, drop}
+use Rattle.std.specs.Prelude.{Bool, ◌&&◌, List, [], ◌∷◌, ℕ, suc, ◌+◌, leb, eqb, take, drop}
 use Rattle.ji.specs.Unicode.{Table, pickNumber, same}
 use Rattle.ji.specs.Text.{lower}
 use Rattle.ji.specs.Tone.{isTone}

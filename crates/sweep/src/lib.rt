@@ -1,3 +1,2 @@
 // Tests of every well-formed syllable, computed: this crate has no code.
 #![tactic(auto)]
-

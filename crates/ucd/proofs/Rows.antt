@@ -1,20 +1,18 @@
 -- The rows that the code reads hold the table of Unicode 16.0: what they give at a number is what the definition gives there. Assumes nothing.
-use mathlib.Core.Path.{◌≡◌, refl, sym, ◌∙◌, ap, ap₂, subst}
+use mathlib.Core.Path.{◌≡◌, refl, ◌∙◌, ap}
 use mathlib.Core.Bool.{Bool, true, ◌&&◌}
 use mathlib.Core.List.{List, [], ◌∷◌}
-use mathlib.Core.Option.{Option, none, some}
 use Prim.Native.Nat.{ℕ, ◌+◌, ◌/◌, ◌%◌, ◌<◌}
 use native.Mathlib.Omega.{arith}
 use lib.Dec.{T, ltb, eqb, ltb→lt}
 use lib.ListN.{get_or}
 use borrow.Author.Tests.{ne_eqb}
-use Rattle.ucd.specs.Table.{pickText, pickNumber, pickPoint, same, listed, mappingIn, mappingOf, classIn, mapping, combiningClass, composite}
+use Rattle.ucd.specs.Table.{listed, mappingOf, classIn, mapping, combiningClass, composite}
 use Rattle.ucd.specs.Unicode16.{unicode16, mappings16, classes16, exclusions16}
 use Rattle.ucd.specs.Answer.{unpackedText, unpacked, verified}
 use Rattle.ucd.proofs.Tests.{either, both-left, both-right}
 use Rattle.ucd.proofs.RowData.{mappingNumbers, classNumbers, displacementNumbers, candidateNumbers, modulus}
 use Rattle.ucd.proofs.RowLaw.{rowIn, numberAt, entries, ascending, number-at, row-read, NoRow, no-row-read}
-use Rattle.ucd.proofs.Unicode16.{low-atom, low-starter, no-composite}
 use Rattle.ucd.proofs.Lists.{eachMapping}
 use Rattle.ucd.proofs.Facts.{primary}
 use Rattle.ucd.proofs.Candidate.{rightCandidate, candidate-composite}

@@ -1,6 +1,6 @@
 -- ASCII texts: each code point is its own byte, and all are in the table.
 use mathlib.Core.Path.{◌≡◌, refl, ap₂, ◌∙◌, subst}
-use mathlib.Core.Bool.{true, ◌&&◌}
+use mathlib.Core.Bool.{true}
 use mathlib.Core.List.{List, [], ◌∷◌, ◌++◌}
 use Prim.Native.Nat.{ℕ, zero, suc, ◌≤◌, ◌<◌}
 use native.Mathlib.Omega.{arith}

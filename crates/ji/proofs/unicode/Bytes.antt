@@ -1,7 +1,7 @@
 -- What the crates above know of the bytes of a text, which this crate alone turns into code points and back, and of the two tests of lists
 -- that the table's crate defines.
 use mathlib.Core.Path.{◌≡◌, refl}
-use mathlib.Core.Bool.{Bool, true, false, ◌&&◌, ◌||◌}
+use mathlib.Core.Bool.{false, ◌&&◌, ◌||◌}
 use mathlib.Core.List.{List, [], ◌∷◌}
 use Prim.Native.Nat.{ℕ}
 use lib.Dec.{eqb}

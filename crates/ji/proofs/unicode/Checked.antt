@@ -6,7 +6,7 @@ use mathlib.Core.Option.{Option, none, some}
 use Prim.Native.Nat.{ℕ, ◌≤◌, ◌<◌}
 use native.Mathlib.Omega.{arith}
 use borrow.Author.Tests.{leb-true}
-use lib.Dec.{T, leb}
+use lib.Dec.{leb}
 use lib.ListN.{length}
 use Rattle.ucd.specs.Table.{Table}
 use Rattle.ucd.specs.Unicode16.{unicode16}
@@ -15,10 +15,9 @@ use Rattle.ucd.proofs.Unicode16.{member-below}
 use Rattle.ji.specs.Text.{last}
 use Rattle.ji.specs.Utf8.{decode, encode, lastPoint}
 use Rattle.ji.specs.Unicode.{members}
-use Rattle.ji.specs.Reply.{Checked, good, bad, pickChecked, checkPoints, checkWithin, checkText}
+use Rattle.ji.specs.Reply.{good, bad, pickChecked, checkPoints, checkWithin, checkText}
 use Rattle.ji.specs.declared.reply.Refusal.{Refusal}
 use Rattle.ji.specs.declared.reply.Refusal.TheVariants.{TooLong, OutsideTable}
-use Rattle.ji.proofs.Bools.{either}
 use Rattle.ji.proofs.Replies.{within-points}
 use Rattle.ji.proofs.unicode.Laws.{members-all}
 use Rattle.ji.proofs.utf8.Last.{point-bytes}

@@ -1,24 +1,22 @@
 -- Texts of the table: what a code point spreads to, which texts are accepted, and the walk from code points to bytes.
-use mathlib.Core.Path.{◌≡◌, refl, sym, ap, ap₂, ◌∙◌, subst}
-use mathlib.Core.Bool.{Bool, true, false, ◌&&◌}
+use mathlib.Core.Path.{◌≡◌, refl, sym, ap, ◌∙◌, subst}
+use mathlib.Core.Bool.{Bool, true, false}
 use mathlib.Core.List.{List, [], ◌∷◌, ◌++◌}
-use mathlib.Core.Option.{Option, none, some}
-use Prim.Native.Nat.{ℕ, zero, suc, ◌+◌, ◌-◌, ◌*◌, ◌≤◌, ◌<◌}
+use Prim.Native.Nat.{ℕ, zero, suc, ◌+◌, ◌-◌, ◌≤◌, ◌<◌}
 use native.Mathlib.Omega.{arith}
 use borrow.Author.Tests.{eq-eqb, ne_eqb}
-use lib.Dec.{T, eqb}
 use lib.ListN.{length, drop, get_or, drop_of_length-le}
 use lib.Seq.{drop-cons, drop-drop}
-use Rattle.ucd.specs.Table.{Table, All, Atom, member, mapping, decomposition, mappingIn, pickText}
+use Rattle.ucd.specs.Table.{Table, All, member, mapping, decomposition, mappingIn}
 use Rattle.ucd.specs.Full.{full, pass, passes}
 use Rattle.ucd.specs.Answer.{said}
 use Rattle.ucd.proofs.Answer.{textOf, text-told}
 use Rattle.ucd.specs.declared.Mapping.{Mapping}
 use Rattle.ucd.specs.Unicode16.{unicode16, mappings16}
-use Rattle.ucd.proofs.Unicode16.{member-below, low-atom, full-itself, full-one, full-two, full-length}
+use Rattle.ucd.proofs.Unicode16.{low-atom, full-itself, full-length}
 use Rattle.ji.specs.Utf8.{widthAt, pointAt}
 use Rattle.ji.specs.Unicode.{members, acceptedFrom, accepted, spread}
-use Rattle.ji.proofs.Bools.{false-true, and-yes, and-no, and-left, and-right, text-yes, text-no}
+use Rattle.ji.proofs.Bools.{and-yes, and-no, and-left, and-right, text-yes, text-no}
 use Rattle.ji.proofs.Decomposition.{full-nil, full-append}
 use Rattle.ji.proofs.utf8.Decoding.{drop-rest}
 

@@ -1,5 +1,5 @@
 -- The reader's loop: what holds of the bytes that are read and of the buffer, and what each way out gives.
-use mathlib.Core.Path.{◌≡◌, refl, sym, ap, ◌∙◌, subst}
+use mathlib.Core.Path.{◌≡◌, refl, sym, ap, ◌∙◌}
 use mathlib.Core.Bool.{Bool, true, false}
 use mathlib.Core.List.{List, [], ◌∷◌, ◌++◌, append_assoc, append-nil}
 use mathlib.Core.Option.{Option, none, some}
@@ -7,9 +7,9 @@ use Prim.Native.Nat.{ℕ, zero, suc, ◌+◌, ◌-◌, ◌*◌, ◌≤◌, ◌<�
 use native.Mathlib.Omega.{arith}
 use native.Mathlib.Decide.{dec_le}
 use lib.Dec.{eqb}
-use lib.ListN.{length, take, drop, get_or, length-drop, length-append}
+use lib.ListN.{length, take, drop, length-drop, length-append}
 use borrow.Author.Tests.{eqb-false}
-use lib.Seq.{drop-cons, paste}
+use lib.Seq.{paste}
 use Rattle.ucd.specs.Table.{Table, member, pickText}
 use Rattle.ucd.specs.Unicode16.{unicode16}
 use Rattle.ji.specs.Written.{Written}
@@ -69,10 +69,15 @@ accepted-few d zero (b ∷ s) =
     let k : 0 < widthAt (b ∷ s) = let ne = eqb-false (widthAt (b ∷ s)) 0 e in omega arith in
     few-picked d (member unicode16 (pointAt (b ∷ s))) _ [] _
     (λ m.
-    omega (arith,
-    ap length (spread-append unicode16 d (pointAt (b ∷ s) ∷ []) (acceptedFrom unicode16 (widthAt (b ∷ s) - 1) s)),
-    length-append (spread unicode16 d (pointAt (b ∷ s) ∷ [])) (spread unicode16 d (acceptedFrom unicode16 (widthAt (b ∷ s) - 1) s)),
-    spread-first d b s k, accepted-few d (widthAt (b ∷ s) - 1) s, width-length (b ∷ s), length-drop (widthAt (b ∷ s) - 1) s))
+    omega (
+      arith,
+      ap length (spread-append unicode16 d (pointAt (b ∷ s) ∷ []) (acceptedFrom unicode16 (widthAt (b ∷ s) - 1) s)),
+      length-append (spread unicode16 d (pointAt (b ∷ s) ∷ [])) (spread unicode16 d (acceptedFrom unicode16 (widthAt (b ∷ s) - 1) s)),
+      spread-first d b s k,
+      accepted-few d (widthAt (b ∷ s) - 1) s,
+      width-length (b ∷ s),
+      length-drop (widthAt (b ∷ s) - 1) s,
+    ))
     (λ m. few-none d _))
 accepted-few d (suc skip) (b ∷ s) = accepted-few d skip s
 
@@ -188,9 +193,9 @@ module _ (t : Table) (d : Bool) (s before : List ℕ) where
           read-room room =
               let rest = accepted t (drop (i + widthAt (drop i s)) s) in
               let all : spread t d (accepted t s) ≡ spread t d r.taken ++ (spread t d (p ∷ []) ++ spread t d rest) =
-                  ap (spread t d) (r.text.stops ∙ ap (λ (l : List ℕ). r.taken ++ l) (accepted-at t s i h k m))
-                  ∙ spread-append t d r.taken (p ∷ rest)
-                  ∙ ap (λ (l : List ℕ). spread t d r.taken ++ l) (spread-append t d (p ∷ []) rest) in
+              ap (spread t d) (r.text.stops ∙ ap (λ (l : List ℕ). r.taken ++ l) (accepted-at t s i h k m))
+              ∙ spread-append t d r.taken (p ∷ rest)
+              ∙ ap (λ (l : List ℕ). spread t d r.taken ++ l) (spread-append t d (p ∷ []) rest) in
               omega (arith, room, ap length all, length-append (spread t d r.taken) (spread t d (p ∷ []) ++ spread t d rest), length-append (spread t d (p ∷ [])) (spread t d rest), r.written.size)
 
           pub read-more : n + length (spread t d (p ∷ [])) ≤ length before

@@ -2,20 +2,15 @@
 use mathlib.Core.Path.{◌≡◌, sym, ap, ◌∙◌, subst}
 use mathlib.Core.Bool.{false}
 use mathlib.Core.List.{List}
-use Prim.Native.Nat.{ℕ, ◌≤◌}
-use native.Mathlib.Omega.{arith}
-use lib.ListN.{length}
+use Prim.Native.Nat.{ℕ}
 use Rattle.ucd.specs.Unicode16.{unicode16}
 use Rattle.ji.specs.Written.{Written}
 use Rattle.ji.specs.Utf8.{decode}
-use Rattle.ji.specs.Unicode.{accepted}
-use Rattle.ji.specs.Reply.{Reply, Checked, good, placed, checkPoints}
+use Rattle.ji.specs.Reply.{Checked, good, placed, checkPoints}
 use Rattle.ji.specs.Reading.{Reading, Counting, pointsReply, pointsOf, pointsCall}
-use Rattle.ji.specs.declared.unicode.CharLen.{CharLen}
 use Rattle.ji.specs.declared.unicode.Decoded.{Decoded}
 use Rattle.ji.specs.declared.unicode.Decoded.TheVariants.{Points, Refused}
-use Rattle.ji.proofs.Replies.{placed-not, placed-written}
-use Rattle.ji.proofs.unicode.Ascii.{ascii-good}
+use Rattle.ji.proofs.Replies.{placed-written}
 use Rattle.ji.proofs.unicode.Checked.{good-same, good-not-bad}
 use Rattle.ji.proofs.unicode.Laws.{spread-plain}
 
@@ -33,4 +28,3 @@ pub read : (s u before after : List ℕ) → checkPoints unicode16 (decode s) �
 read s u before after e (Points n) r =
     placed-written 0 u before n.0 after (subst (λ (l : List ℕ). Written before after n.0 l) (spread-plain unicode16 r.0 ∙ good-same (sym r.1 ∙ e)) r.2)
 read s u before after e (Refused why) r = absurd (good-not-bad (sym e ∙ r.0))
-

@@ -1,19 +1,18 @@
 -- The last sequence of some bytes: where it begins, and that of the bytes of a text it is the last code point.
 use mathlib.Core.Path.{◌≡◌, refl, sym, ap, ap₂, ◌∙◌, subst}
-use mathlib.Core.Bool.{Bool, true, false, not}
+use mathlib.Core.Bool.{true, false, not}
 use mathlib.Core.List.{List, [], ◌∷◌, ◌++◌, append-nil}
-use mathlib.Core.Option.{Option, none, some, none-ne-some}
-use Prim.Native.Nat.{ℕ, zero, suc, ◌+◌, ◌-◌, ◌/◌, ◌%◌, ◌≤◌, ◌<◌}
+use mathlib.Core.Option.{some, none-ne-some}
+use Prim.Native.Nat.{ℕ, suc, ◌+◌, ◌-◌, ◌/◌, ◌%◌, ◌≤◌, ◌<◌}
 use native.Mathlib.Omega.{arith}
-use native.Mathlib.Decide.{dec_le, ℕ_discrete}
+use native.Mathlib.Decide.{dec_le}
 use borrow.Author.Tests.{eq-eqb, ne_eqb, lt-ltb, le-ltb, le-leb, lt-leb}
-use lib.Dec.{leb, ltb, eqb}
-use lib.ListN.{length, take, drop, get_or, drop_of_length-le, take-append-drop, length-append}
+use lib.Dec.{leb, ltb}
+use lib.ListN.{length, take, drop, get_or, drop_of_length-le, take-append-drop}
 use lib.Seq.{append_snoc, take-suc, take_at, drop_at, drop-cons}
 use Rattle.ucd.specs.Table.{pickNumber, All}
-use Rattle.ucd.specs.Unicode16.{unicode16}
 use Rattle.ji.specs.Text.{last, butLast}
-use Rattle.ji.specs.Utf8.{widthAt, pointAt, more, decodeFrom, decode, ReadOf, bytesOf, encode, isStart, lastStartFrom, lastStart, lastPoint}
+use Rattle.ji.specs.Utf8.{widthAt, pointAt, decodeFrom, decode, ReadOf, bytesOf, encode, isStart, lastStartFrom, lastStart, lastPoint}
 use Rattle.ji.proofs.Bools.{number-yes, number-no, within-yes, within-below, within-above}
 use Rattle.ji.proofs.utf8.Decoding.{decode-at-ill, decode-step, more-some}
 use Rattle.ji.proofs.utf8.Encoding.{bytes-one, bytes-two, bytes-three, bytes-four, encode-nil, encode-cons, encode-append}

@@ -1,21 +1,20 @@
 -- UTF-8: a sequence by its first byte, and both round trips.
-use mathlib.Core.Path.{◌≡◌, refl, sym, ap, ap₂, ◌∙◌, subst}
+use mathlib.Core.Path.{◌≡◌, refl, sym, ap, ap₂, ◌∙◌}
 use mathlib.Core.Bool.{Bool, true, false, ◌&&◌}
-use mathlib.Core.Option.{Option, none, some, none-ne-some, some-injective}
-use mathlib.Core.List.{List, [], ◌∷◌, ◌++◌}
-use Prim.Native.Nat.{ℕ, zero, suc, ◌+◌, ◌-◌, ◌*◌, ◌/◌, ◌%◌, ◌≤◌, ◌<◌}
+use mathlib.Core.List.{List, [], ◌∷◌}
+use Prim.Native.Nat.{ℕ, zero, suc, ◌+◌, ◌-◌, ◌*◌, ◌%◌, ◌≤◌, ◌<◌}
 use native.Mathlib.Omega.{arith}
 use native.Mathlib.Decide.{dec_le, ℕ_discrete}
-use borrow.Author.Tests.{le-leb, lt-leb, eq-eqb, ne_eqb, eqb-false}
-use lib.Dec.{leb, eqb}
+use borrow.Author.Tests.{eq-eqb, ne_eqb}
+use lib.Dec.{eqb}
 use native.Mathlib.Nat.{add-zero}
 use native.Mathlib.Numerals.{add-one}
-use lib.ListN.{length, take, drop, get_or, take-append-drop}
+use lib.ListN.{length, take, drop, get_or}
 use lib.Seq.{drop-cons, drop-drop, get_or-drop}
-use Rattle.ucd.specs.Table.{pickNumber, pickText, All}
+use Rattle.ucd.specs.Table.{pickNumber}
 use Rattle.ji.specs.Text.{within}
-use Rattle.ji.specs.Utf8.{table37, fitsRow, widthIn, widthAt, secondLow, secondHigh, ReadOf, leading, trailing, pointOf, pointAt, more, pickDecoded, decodeFrom, decode, bytesOf, encode}
-use Rattle.ji.proofs.Bools.{false-true, either, and-true, and-no, and-yes, and-left, and-right, number-yes, number-no, text-yes, text-no, within-yes, within-below, within-above, within-is}
+use Rattle.ji.specs.Utf8.{table37, fitsRow, widthIn, widthAt, secondLow, secondHigh, ReadOf, leading, trailing, pointAt}
+use Rattle.ji.proofs.Bools.{either, and-true, and-no, and-yes, and-left, and-right, number-yes, number-no, within-yes, within-below, within-above, within-is}
 
 -- ── a sequence by its first byte
 abbrev later : ℕ × ℕ

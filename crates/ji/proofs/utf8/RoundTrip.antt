@@ -6,13 +6,13 @@ use mathlib.Core.List.{List, [], ◌∷◌, ◌++◌}
 use Prim.Native.Nat.{ℕ, zero, suc, ◌+◌, ◌-◌, ◌*◌, ◌/◌, ◌%◌, ◌≤◌, ◌<◌}
 use native.Mathlib.Omega.{arith}
 use native.Mathlib.Decide.{dec_le, ℕ_discrete}
-use borrow.Author.Tests.{eqb-false, eq-eqb, ne_eqb, eqb-true}
+use borrow.Author.Tests.{eqb-false, eqb-true}
 use lib.Dec.{eqb}
 use lib.ListN.{length, take, drop, get_or, take-append-drop}
 use Rattle.ucd.specs.Table.{pickNumber, All}
 use Rattle.ji.specs.Text.{within}
 use Rattle.ji.specs.Utf8.{widthAt, secondLow, secondHigh, pointAt, ReadOf, more, pickDecoded, decodeFrom, decode, bytesOf, encode}
-use Rattle.ji.proofs.Bools.{either, and-yes, and-no, and-false, and-left, and-right, number-yes, number-no, within-yes, within-is, false-true}
+use Rattle.ji.proofs.Bools.{either, and-yes, and-false, and-left, and-right, number-yes, number-no, within-yes, within-is, false-true}
 use Rattle.ji.proofs.utf8.Laws.{First, one, two, three, four, nothing, first, low-positive, read-one, read-two, read-two-not, read-three, read-three-not, read-four, read-four-not}
 use Rattle.ji.proofs.utf8.Decoding.{decode-step, drop-rest}
 use Rattle.ji.proofs.utf8.Encoding.{bytes-one, bytes-two, bytes-three, bytes-four, encode-cons}

@@ -1,5 +1,5 @@
 -- `strip_tone_diacritic` (document 01, "ji: strip_tone_diacritic").
-use Rattle.std.specs.Prelude.{Bool, true, false, ◌||◌, List, [], ◌∷◌, map, ℕ, ◌-◌, eqb, length, drop}
+use Rattle.std.specs.Prelude.{Bool, false, ◌||◌, List, [], ◌∷◌, map, ℕ, ◌-◌, eqb, length, drop}
 use Rattle.ucd.specs.Table.{Table, pickText, same}
 use Rattle.ji.specs.Text.{lower}
 use Rattle.ji.specs.Utf8.{encode, bytes}

@@ -3,13 +3,13 @@
 use mathlib.Core.Path.{◌≡◌, refl, sym, ap, ap₂, ◌∙◌}
 use mathlib.Core.Bool.{Bool, true, false}
 use mathlib.Core.List.{List, [], ◌∷◌, ◌++◌, map, append-nil}
-use mathlib.Core.Logic.{◌⊎◌, inl, inr}
-use Prim.Native.Nat.{ℕ, zero, suc, ◌+◌, ◌*◌, ◌/◌, ◌%◌, ◌≤◌, ◌<◌}
+use mathlib.Core.Logic.{inl, inr}
+use Prim.Native.Nat.{ℕ, ◌*◌, ◌/◌, ◌%◌, ◌≤◌, ◌<◌}
 use native.Mathlib.Omega.{arith}
 use borrow.Author.Tests.{ne_eqb}
 use lib.Dec.{eqb}
-use lib.ListN.{length, get_or, length-append, length-map}
-use Rattle.ji.specs.Unicode.{Table, unicode16, members, same}
+use lib.ListN.{length, get_or, length-map}
+use Rattle.ji.specs.Unicode.{Table, unicode16, same}
 use Rattle.ji.specs.Utf8.{encode}
 use Rattle.ji.specs.Lomaji.Keys.{keys}
 use Rattle.ji.specs.declared.lomaji.keys.Form.TheVariants.{Plain, Oo}
@@ -18,9 +18,9 @@ use Rattle.ji.specs.declared.lomaji.keys.Kind.TheVariants.{Detoned, Numeric, Tel
 use Rattle.ji.proofs.unicode.Bytes.{encode-nil, encode-append}
 use Rattle.ji.proofs.unicode.Checked.{Passed}
 use Rattle.khiin_entries.specs.KeySequence.{split, pickTexts, holdsDot, each, product, alone, forms, choices, listOf, keyings}
-use Rattle.khiin_entries.specs.Choices.{pointsOf, chosen, choicesOf, choicesIn, Radix}
+use Rattle.khiin_entries.specs.Choices.{chosen, choicesOf, choicesIn, Radix}
 use Rattle.khiin_entries.proofs.key_sequence.Product.{size, place, Filled, length-product, product-at}
-use Rattle.khiin_entries.proofs.key_sequence.Splitting.{Parted, some-part, Each, Inside, map-at, points-back, split-members, parts-are}
+use Rattle.khiin_entries.proofs.key_sequence.Splitting.{some-part, Each, Inside, map-at, points-back, split-members, parts-are}
 
 -- a part has one, two or four choices
 pub radix-some : (n : ℕ) → Radix n → 0 < n

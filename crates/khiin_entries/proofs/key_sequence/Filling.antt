@@ -13,14 +13,14 @@ use lib.Dec.{leb, eqb}
 use lib.ListN.{length, take, drop, get_or, set, length-set, length-drop, length-map}
 use lib.Seq.{take-suc, take-take, take_all, get_or-set_same, get_or-set_other}
 use Rattle.ji.specs.Unicode.{unicode16, pickNumber}
-use Rattle.ji.specs.Reply.{good, checkWithin, checkText}
+use Rattle.ji.specs.Reply.{good, checkText}
 use Rattle.ji.specs.declared.lomaji.keys.Kind.{Kind}
-use Rattle.ji.proofs.Bools.{either, and-left, and-right}
+use Rattle.ji.proofs.Bools.{and-left, and-right}
 use Rattle.ji.proofs.unicode.Checked.{Passed, check-passed}
 use Rattle.khiin_entries.specs.KeySequence.{split}
-use Rattle.khiin_entries.specs.Choices.{pointsOf, firstPart, allShort, partCount, Entry, choicesOf, choicesIn, upTo, choiceAt, choicesAt, laidOut, Within, RowOf, Laid}
+use Rattle.khiin_entries.specs.Choices.{pointsOf, firstPart, allShort, partCount, Entry, choicesOf, choicesIn, choiceAt, choicesAt, laidOut, Within, RowOf, Laid}
 use Rattle.khiin_entries.specs.declared.key_sequence.Row.{Row}
-use Rattle.khiin_entries.proofs.key_sequence.Splitting.{Passing, passing-start, passing-more, passing-inside, passing-text, passing-cut, passing-next, short-at, part-good}
+use Rattle.khiin_entries.proofs.key_sequence.Splitting.{Passing, passing-start, passing-inside, passing-text, passing-cut, passing-next, short-at, part-good}
 use Rattle.khiin_entries.proofs.key_sequence.Laying.{upTo-same}
 use Rattle.khiin_entries.proofs.key_sequence.Writing.{cut-front}
 

@@ -2,15 +2,15 @@
 use mathlib.Core.Path.{◌≡◌, refl, sym, ap, ap₂, ◌∙◌, subst}
 use mathlib.Core.Bool.{Bool, true, false}
 use mathlib.Core.List.{List, [], ◌∷◌, ◌++◌, map}
-use Prim.Native.Nat.{ℕ, ◌+◌, ◌-◌, ◌*◌, ◌≤◌, ◌<◌}
+use Prim.Native.Nat.{ℕ, ◌+◌, ◌*◌, ◌≤◌, ◌<◌}
 use native.Mathlib.Omega.{arith}
 use borrow.Author.Tests.{le-leb}
 use lib.Dec.{T}
-use lib.ListN.{length, take, drop, length-append}
+use lib.ListN.{length, take, length-append}
 use lib.Seq.{take_at}
 use Rattle.ji.specs.Unicode.{unicode16, same}
 use Rattle.ji.specs.Utf8.{encode}
-use Rattle.ji.specs.Reply.{Reply, refusalNumber, refused, over, answered, pickReply, placed, good, checkText, textCall, textReply}
+use Rattle.ji.specs.Reply.{Reply, refusalNumber, refused, over, answered, pickReply, good, checkText, textCall, textReply}
 use Rattle.ji.specs.Lomaji.Keys.{keys}
 use Rattle.ji.specs.declared.reply.Refusal.{Refusal}
 use Rattle.ji.specs.declared.reply.Refusal.TheVariants.{Argument, TooLong, IllFormed, OutsideTable, Parts, Position, NoRoom}
@@ -25,10 +25,10 @@ use Rattle.ji.proofs.Bools.{either, false-true}
 use Rattle.ji.proofs.Replies.{text-good}
 use Rattle.ji.proofs.lomaji.keys.Bytes.{addedKey, toned-bytes, keys-bytes}
 use Rattle.ji.proofs.unicode.Bytes.{same-equal, same-itself, same-bytes}
-use Rattle.ji.proofs.unicode.Checked.{Passed, check-passed}
+use Rattle.ji.proofs.unicode.Checked.{check-passed}
 use Rattle.khiin_entries.specs.KeySequence.{pickTexts, holdsDot, alone, forms, choices}
 use Rattle.ji.specs.Lomaji.Dot.{dotIn}
-use Rattle.khiin_entries.specs.Choices.{pointsOf, formBytes, isToned, chosen, choicesOf}
+use Rattle.khiin_entries.specs.Choices.{pointsOf, formBytes, isToned, choicesOf}
 use Rattle.khiin_entries.proofs.key_sequence.Splitting.{dot-bytes}
 
 -- ── what the call gives

@@ -5,7 +5,7 @@ use mathlib.Core.Logic.{⊎_elim}
 use Prim.Native.Nat.{ℕ, zero, suc, ◌+◌, ◌-◌, ◌*◌, ◌/◌, ◌%◌, ◌^◌, ◌≤◌, ◌<◌}
 use native.Mathlib.Nat.{mod-lt, mul-le-mul, mul_comm, pow-succ', suc-mul, eq-or-lt_of_le, le_trans, pow-le-pow_right}
 use native.Mathlib.Omega.{arith}
-use lib.ListN.{length, take, drop, get_or, length-append, length-drop, get_or-append}
+use lib.ListN.{length, drop, get_or, length-append, length-drop, get_or-append}
 use lib.Seq.{length-take-le, get_or_at}
 use Rattle.khiin_entries.specs.Choices.{upTo, choiceAt, choicesAt, laidOut, Radix, Within, Laid, countIn, lengthIn, keyingIn}
 use Rattle.khiin_entries.proofs.key_sequence.Product.{size, place, size-snoc, place-snoc}

@@ -1,6 +1,6 @@
 -- The row of a part: what it says of the buffer are the part's choices.
 use mathlib.Core.Path.{◌≡◌, refl, sym, ap, ap₂, ◌∙◌}
-use mathlib.Core.Bool.{Bool, true, false}
+use mathlib.Core.Bool.{Bool}
 use mathlib.Core.List.{List, [], ◌∷◌, ◌++◌}
 use mathlib.Core.Logic.{inl, inr}
 use Prim.Native.Nat.{ℕ, zero, suc, ◌+◌, ◌-◌, ◌*◌, ◌≤◌, ◌<◌}
@@ -11,7 +11,7 @@ use Rattle.ji.specs.Unicode.{unicode16}
 use Rattle.ji.specs.Reply.{good, checkText}
 use Rattle.ji.specs.declared.lomaji.keys.Form.TheVariants.{Plain, Oo}
 use Rattle.ji.specs.declared.lomaji.keys.Kind.{Kind}
-use Rattle.khiin_entries.specs.Choices.{pointsOf, formBytes, choicesOf, choicesAt, rowOne, rowTwo, rowOneToned, rowTwoToned, RowOf, Within}
+use Rattle.khiin_entries.specs.Choices.{pointsOf, formBytes, choicesOf, rowOne, rowTwo, rowOneToned, rowTwoToned, RowOf, Within}
 use Rattle.khiin_entries.proofs.key_sequence.Writing.{Stands, pasted-length, put-stands, put-front, put-keeps, stands-front}
 use Rattle.khiin_entries.proofs.key_sequence.Forms.{form-bytes}
 

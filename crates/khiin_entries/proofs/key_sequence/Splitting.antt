@@ -1,23 +1,22 @@
 -- The parts of an entry: the bytes of an entry split as its code points do, one part at a time, and each part of a good entry is a good text.
 use mathlib.Core.Path.{◌≡◌, refl, sym, ap, ap₂, ◌∙◌}
-use mathlib.Core.Bool.{Bool, true, false, ◌&&◌, ◌||◌}
+use mathlib.Core.Bool.{Bool, true, ◌&&◌}
 use mathlib.Core.List.{List, [], ◌∷◌, ◌++◌, map}
-use mathlib.Core.Option.{Option, some}
-use Prim.Native.Nat.{ℕ, zero, suc, ◌+◌, ◌-◌, ◌/◌, ◌%◌, ◌≤◌, ◌<◌}
+use Prim.Native.Nat.{ℕ, zero, suc, ◌+◌, ◌-◌, ◌≤◌, ◌<◌}
 use native.Mathlib.Nat.{add-zero}
 use native.Mathlib.Numerals.{add-one}
 use native.Mathlib.Decide.{dec_le, ℕ_discrete}
 use native.Mathlib.Omega.{arith}
-use borrow.Author.Tests.{eq-eqb, ne_eqb, eqb-true, eqb-false, leb-true}
-use lib.Dec.{eqb, leb}
+use borrow.Author.Tests.{eq-eqb, ne_eqb, leb-true}
+use lib.Dec.{leb}
 use lib.ListN.{length, take, drop, get_or, length-map, get_or-map, length-drop, drop_of_length-le}
 use lib.Seq.{drop-cons, drop-drop, get_or-drop}
 use Rattle.ji.specs.Unicode.{Table, All, unicode16, member, members}
-use Rattle.ji.specs.Utf8.{bytesOf, encode, decode}
-use Rattle.ji.specs.Reply.{good, checkWithin, checkText}
+use Rattle.ji.specs.Utf8.{bytesOf, encode}
+use Rattle.ji.specs.Reply.{good, checkText}
 use Rattle.ji.specs.Lomaji.Dot.{dotIn}
-use Rattle.ji.proofs.Bools.{either, false-true, and-left, and-right, and-yes, and-no, and-false, or-yes, or-no}
-use Rattle.ji.proofs.unicode.Bytes.{bytes-one, bytes-two, bytes-three, bytes-four, encode-nil, encode-cons, listed-nil, listed-cons}
+use Rattle.ji.proofs.Bools.{and-left, and-right, and-yes}
+use Rattle.ji.proofs.unicode.Bytes.{bytes-one, bytes-two, bytes-three, bytes-four, encode-nil, encode-cons}
 use Rattle.ji.proofs.unicode.Checked.{read-back, check-passes, Passed}
 use Rattle.khiin_entries.specs.KeySequence.{pickTexts, inFront, split, holdsDot, partsFit}
 use Rattle.ji.proofs.lomaji.dot.Laws.{dot-listed}

@@ -5,28 +5,27 @@ use mathlib.Core.List.{List, [], ◌∷◌, ◌++◌, append-nil}
 use mathlib.Core.Logic.{◌⊎◌, inl, inr}
 use Prim.Native.Nat.{ℕ, zero, suc, ◌+◌, ◌*◌, ◌≤◌, ◌<◌}
 use native.Mathlib.Omega.{arith}
-use borrow.Author.Tests.{eqb-true}
-use lib.Dec.{T, leb, eqb, leb→le}
+use lib.Dec.{T, leb, leb→le}
 use lib.ListN.{length, take, drop, get_or, length-append}
-use Rattle.ucd.specs.Table.{Table, All, Atom, inRanges, mappingIn, decomposition}
+use Rattle.ucd.specs.Table.{Table, All, Atom, mappingIn, decomposition}
 use Rattle.ucd.specs.Full.{pass, passes, full}
 use Rattle.ucd.specs.Unicode16.{unicode16, mappings16}
 use Rattle.ucd.proofs.Tests.{each, each-all}
 use Rattle.ucd.proofs.Lists.{eachMapping, mapping-passes}
 use Rattle.ucd.proofs.Facts.{atom-full}
-use Rattle.ji.specs.Text.{points, replaceAll, begins}
+use Rattle.ji.specs.Text.{replaceAll}
 use Rattle.ji.specs.Utf8.{bytesOf, encode}
 use Rattle.ji.specs.Nfd.{insert, order, nfd, reorderable}
 use Rattle.ji.specs.Tone.{toneNumber}
 use Rattle.ji.specs.Lomaji.Strip.{isToneMark, withoutMarks, stripped, strip}
-use Rattle.ji.specs.Lomaji.Keys.{plainRules, ooRules, rulesOf, respell, toneKeys, keyed, keys}
+use Rattle.ji.specs.Lomaji.Keys.{rulesOf, respell, toneKeys, keyed, keys}
 use Rattle.ji.specs.declared.tone.Tone.{Tone}
 use Rattle.ji.specs.declared.tone.Tone.TheVariants.{None, T1, T2, T3, T4, T5, T6, T7, T8, T9}
 use Rattle.ji.specs.declared.lomaji.keys.Form.{Form}
 use Rattle.ji.specs.declared.lomaji.keys.Form.TheVariants.{Plain, Oo}
 use Rattle.ji.specs.declared.lomaji.keys.Kind.{Kind}
 use Rattle.ji.specs.declared.lomaji.keys.Kind.TheVariants.{Detoned, Numeric, Telex}
-use Rattle.ji.proofs.Bools.{either, false-true, and-left, and-right, text-yes, text-no}
+use Rattle.ji.proofs.Bools.{either, false-true, text-yes, text-no}
 use Rattle.ji.proofs.Decomposition.{full-nil, full-cons}
 use Rattle.ji.proofs.Order.{insert-nil, insert-past, insert-here, order-nil, order-cons}
 use Rattle.ji.proofs.text.Laws.{begins-split, replace-nil, replace-hit, replace-miss, replace-induction}

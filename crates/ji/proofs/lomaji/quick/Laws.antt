@@ -17,7 +17,7 @@ use Rattle.ucd.proofs.Unicode16.{low-atom, low-starter, full-itself, full-two}
 use Rattle.ji.specs.Written.{Written}
 use Rattle.ji.specs.Utf8.{widthAt, pointAt, ReadOf, bytesOf, encode}
 use Rattle.ji.specs.Tone.{isTone}
-use Rattle.ji.specs.Nfd.{Reorderable, NoPair, Ordered, order, nfd}
+use Rattle.ji.specs.Nfd.{Reorderable, NoPair, Ordered, nfd}
 use Rattle.ji.specs.Lomaji.Strip.{markTone, isToneMark, withoutMarks, droppedMarks, lastTone}
 use Rattle.ji.specs.Lomaji.Quick.{IsLetter, Stripping, Further, Walked}
 use Rattle.ji.specs.declared.tone.Tone.{Tone}

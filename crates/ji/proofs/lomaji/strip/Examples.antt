@@ -1,7 +1,7 @@
 -- Examples of stripping (document 01, "Starred examples"), one for each tone mark and each ending among them: an edit that changes a mark's
 -- tone in the code and in the definition alike still breaks one of these.
 use mathlib.Core.Path.{◌≡◌, refl}
-use mathlib.Core.List.{List, [], ◌∷◌, ◌++◌}
+use mathlib.Core.List.{List, [], ◌∷◌}
 use Prim.Native.Nat.{ℕ}
 use Rattle.ucd.specs.Table.{same, mappingIn, classIn, decomposition, combiningClass}
 use Rattle.ucd.specs.Full.{pass, passes, full}
@@ -9,7 +9,7 @@ use Rattle.ucd.specs.Unicode16.{unicode16, mappings16, classes16}
 use Rattle.ji.specs.Text.{points, marked, lower}
 use Rattle.ji.specs.Utf8.{bytesOf, encode}
 use Rattle.ji.specs.Nfd.{reorderable, insert, order, nfd}
-use Rattle.ji.specs.Lomaji.Strip.{markTone, isToneMark, withoutMarks, droppedMarks, lastTone, endsIn, unmarkedTone, Stripped, stripped, strip}
+use Rattle.ji.specs.Lomaji.Strip.{markTone, isToneMark, withoutMarks, droppedMarks, lastTone, endsIn, unmarkedTone, stripped, strip}
 use Rattle.ji.specs.declared.tone.Tone.{Tone}
 use Rattle.ji.specs.declared.tone.Tone.TheVariants.{T1, T2, T3, T4, T5, T6, T7, T8, T9}
 

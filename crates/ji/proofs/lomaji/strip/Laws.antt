@@ -1,26 +1,26 @@
 -- Stripping, one code point at a time; the endings of a text; the tone without a mark.
 use mathlib.Core.Path.{◌≡◌, refl, sym, ap, ap₂, ◌∙◌, subst}
 use mathlib.Core.Bool.{Bool, true, false, ◌&&◌, ◌||◌}
-use mathlib.Core.List.{List, [], ◌∷◌, ◌++◌, map}
+use mathlib.Core.List.{List, [], ◌∷◌, map}
 use Prim.Native.Nat.{ℕ, zero, suc, ◌+◌, ◌-◌, ◌≤◌, ◌<◌}
 use native.Mathlib.Omega.{arith}
 use native.Mathlib.Numerals.{add-one}
-use lib.Dec.{T, eqb, leb}
+use lib.Dec.{eqb, leb}
 use borrow.Author.Tests.{eq-eqb, ne_eqb, eqb-false, leb-true, leb-false}
 use lib.ListN.{length, drop, get_or, drop_of_length-le}
 use lib.Seq.{drop-cons}
-use Rattle.ucd.specs.Table.{Table, pickText, same}
+use Rattle.ucd.specs.Table.{Table, same}
 use Rattle.ji.specs.Text.{lower}
 use Rattle.ji.specs.Utf8.{bytesOf, decode, encode}
 use Rattle.ji.specs.Tone.{pickTone, isTone, toneNumber}
 use Rattle.ji.specs.Unicode.{spread}
 use Rattle.ji.specs.Nfd.{order, nfd}
-use Rattle.ji.specs.Reply.{Reply, refused, placed, Checked, good, bad, checkPoints, checkText}
+use Rattle.ji.specs.Reply.{refused, placed, Checked, good, bad, checkPoints, checkText}
 use Rattle.ji.specs.declared.reply.Refusal.{Refusal}
 use Rattle.ji.specs.Lomaji.Strip.{toneMarks, toneIn, markIn, markTone, isToneMark, withoutMarks, droppedMarks, lastTone, endsIn, endsInAny, stopEndings, unmarkedTone, toneOr, stripped, strippedReply, stripOf, stripCall}
 use Rattle.ji.specs.declared.tone.Tone.{Tone}
-use Rattle.ji.specs.declared.tone.Tone.TheVariants.{None, T1, T2, T3, T4, T5, T6, T7, T8, T9}
-use Rattle.ji.proofs.Bools.{either, false-true, and-no, and-yes, and-false, or-yes, or-no, or-false, text-yes, text-no}
+use Rattle.ji.specs.declared.tone.Tone.TheVariants.{None}
+use Rattle.ji.proofs.Bools.{either, and-no, and-yes, and-false, or-yes, or-no, or-false, text-yes, text-no}
 use Rattle.ji.proofs.Replies.{check-within}
 
 -- ── marks

@@ -65,10 +65,10 @@ module _ (s before d : List ℕ) (n : ℕ) (w : Written before d n (full t s)) (
     exchanged-front : take (r - 0) (part ++ drop (r - 0) buffer) ≡ exchanged a b (nfc t s)
     exchanged-front =
         let front-is : take (r - 0) buffer ≡ nfc t s =
-            rw (is-buffer, is-r, sub-zero (length (nfc t s))) (take-append_seam (nfc t s) (drop (length (nfc t s)) (over (nfd t s) before))) in
+        rw (is-buffer, is-r, sub-zero (length (nfc t s))) (take-append_seam (nfc t s) (drop (length (nfc t s)) (over (nfd t s) before))) in
         let part-is : part ≡ exchanged a b (nfc t s) = is ∙ ap (exchanged a b) front-is in
         let long : length part ≡ r - 0 =
-            ap length part-is ∙ replace-same-length (a ∷ b ∷ []) (b ∷ a ∷ []) (omega arith) refl (nfc t s) ∙ sym (sub-zero r ∙ is-r) in
+        ap length part-is ∙ replace-same-length (a ∷ b ∷ []) (b ∷ a ∷ []) (omega arith) refl (nfc t s) ∙ sym (sub-zero r ∙ is-r) in
         rw (← long) (take-append_seam part (drop (length part) buffer)) ∙ part-is
 
 pub returns : goal.returns

@@ -1,6 +1,5 @@
 -- `ji::nfd::insert` meets its contract. The loop's invariant: with the code point inserted behind j, the text is what it is to become.
 use mathlib.Core.Path.{refl}
-use Prim.Native.Nat.{◌-◌}
 use native.Mathlib.Omega.{arith}
 use lib.ListN.{length-set}
 use Rattle.ucd.specs.Unicode16.{unicode16}

@@ -1,6 +1,5 @@
 -- `ji::nfd::is_ordered` meets its contract. The loop's invariant: the text is in order just if what is left is, behind the class before.
 use mathlib.Core.Path.{refl, sym}
-use Prim.Native.Nat.{◌-◌}
 use native.Mathlib.Omega.{arith}
 use lib.ListN.{get_or}
 use Rattle.ucd.specs.Unicode16.{unicode16}

@@ -1,6 +1,6 @@
 use mathlib.Core.Path.{◌≡◌, subst}
 use mathlib.Core.List.{List}
-use Prim.Native.Nat.{ℕ, ◌+◌, ◌-◌, ◌≤◌}
+use Prim.Native.Nat.{ℕ, ◌+◌, ◌≤◌}
 use lib.ListN.{length, get_or, set, length-set}
 use Rattle.ji.specs.Written.{Covers}
 use Rattle.ji.proofs.Writing.{covers-one, covers-next}

@@ -1,7 +1,7 @@
 use mathlib.Core.Path.{◌≡◌, refl, sym, ap, ◌∙◌}
 use mathlib.Core.Bool.{Bool, true, false}
 use mathlib.Core.List.{List, [], ◌∷◌, ◌++◌}
-use Prim.Native.Nat.{ℕ, ◌+◌, ◌-◌, ◌≤◌, ◌<◌}
+use Prim.Native.Nat.{ℕ, ◌+◌, ◌≤◌, ◌<◌}
 use lib.ListN.{length, drop, get_or, length-append}
 use Rattle.ucd.specs.Table.{member}
 use Rattle.ucd.specs.Unicode16.{unicode16}
@@ -83,5 +83,5 @@ returns c =
     let l = c.loop-i in
     let good-text = taken-end unicode16 a.s.now l.invariant.0 l.i l.invariant.1 c.loop-i-test.false in
     let all : accepted unicode16 a.s.now ≡ l.invariant.0 =
-        taken-all unicode16 a.s.now l.invariant.0 l.i l.invariant.1 (accepted-end unicode16 a.s.now l.i c.loop-i-test.false) in
+    taken-all unicode16 a.s.now l.invariant.0 l.i l.invariant.1 (accepted-end unicode16 a.s.now l.i c.loop-i-test.false) in
     (l.invariant.0, good-text, all, sym l.invariant.2)

@@ -1,17 +1,16 @@
 use mathlib.Core.Path.{◌≡◌, sym, ap, ◌∙◌, subst}
 use mathlib.Core.Bool.{Bool, true, false}
 use mathlib.Core.List.{List, [], ◌∷◌}
-use Prim.Native.Nat.{ℕ, ◌+◌, ◌-◌, ◌*◌, ◌≤◌, ◌<◌}
+use Prim.Native.Nat.{ℕ, ◌+◌, ◌≤◌, ◌<◌}
 use lib.ListN.{length, drop, get_or}
 use lib.Dec.{T}
 use lib.Seq.{paste}
 use Rattle.ucd.specs.Table.{member}
 use Rattle.ucd.specs.Unicode16.{unicode16}
 use Rattle.ucd.proofs.Unicode16.{member-below}
-use Rattle.ji.specs.Utf8.{widthAt, pointAt, ReadOf, decode, isDecoded}
+use Rattle.ji.specs.Utf8.{widthAt, pointAt, ReadOf, decode}
 use Rattle.ji.specs.Unicode.{accepted, spread}
 use Rattle.ji.specs.Reading.{spreadText, faultIn, Reading}
-use Rattle.ji.specs.declared.reply.Refusal.TheVariants.{IllFormed, OutsideTable}
 use Rattle.ji.specs.declared.unicode.Spread.{Spread}
 use Rattle.ji.specs.declared.unicode.Decoded.TheVariants.{Refused}
 use Rattle.ji.proofs.Writing.{written-length}

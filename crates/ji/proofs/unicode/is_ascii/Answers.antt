@@ -2,9 +2,9 @@ use mathlib.Core.Bool.{◌&&◌}
 use mathlib.Core.List.{[]}
 use lib.Dec.{leb}
 use mathlib.Core.Path.{◌≡◌, refl, sym, ap, ◌∙◌}
-use mathlib.Core.Bool.{true, false}
+use mathlib.Core.Bool.{true}
 use mathlib.Core.List.{List}
-use Prim.Native.Nat.{ℕ, ◌+◌, ◌-◌, ◌<◌}
+use Prim.Native.Nat.{ℕ, ◌+◌, ◌<◌}
 use borrow.Author.Tests.{le-leb, lt-leb}
 use lib.ListN.{length, drop, get_or, drop_of_length-le}
 use Rattle.ji.specs.Text.{allAscii}

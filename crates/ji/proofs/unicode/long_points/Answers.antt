@@ -1,22 +1,10 @@
 -- `unicode::long_points` meets its contract: what the count says of the text and its room is settled before a byte is written.
-use mathlib.Core.Path.{◌≡◌, sym, ap, ◌∙◌, subst}
-use mathlib.Core.Bool.{false}
-use mathlib.Core.List.{List}
-use Prim.Native.Nat.{ℕ, ◌≤◌}
+use mathlib.Core.Path.{ap, ◌∙◌}
 use native.Mathlib.Omega.{arith}
 use lib.ListN.{length}
 use Rattle.ucd.specs.Unicode16.{unicode16}
-use Rattle.ji.specs.Written.{Written}
-use Rattle.ji.specs.Utf8.{decode}
 use Rattle.ji.specs.Unicode.{accepted}
-use Rattle.ji.specs.Reply.{Reply, Checked, good, placed, checkPoints}
-use Rattle.ji.specs.Reading.{Reading, Counting, pointsReply, pointsOf, pointsCall}
-use Rattle.ji.specs.declared.unicode.CharLen.{CharLen}
-use Rattle.ji.specs.declared.unicode.Decoded.{Decoded}
-use Rattle.ji.specs.declared.unicode.Decoded.TheVariants.{Points, Refused}
-use Rattle.ji.proofs.Replies.{placed-not, placed-written}
-use Rattle.ji.proofs.unicode.Ascii.{ascii-good}
-use Rattle.ji.proofs.unicode.Checked.{good-same, good-not-bad}
+use Rattle.ji.proofs.Replies.{placed-not}
 use Rattle.ji.proofs.unicode.Laws.{spread-plain}
 use Rattle.ji.proofs.unicode.Replied.{counted, reply, read}
 use Rattle.ji.proofs.unicode.long_points.Goals as goal

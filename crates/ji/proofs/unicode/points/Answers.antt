@@ -1,23 +1,7 @@
 -- `unicode::points` meets its contract: a text of ASCII letters needs no reading.
-use mathlib.Core.Path.{◌≡◌, sym, ap, ◌∙◌, subst}
-use mathlib.Core.Bool.{false}
-use mathlib.Core.List.{List}
-use Prim.Native.Nat.{ℕ, ◌≤◌}
-use native.Mathlib.Omega.{arith}
-use lib.ListN.{length}
-use Rattle.ucd.specs.Unicode16.{unicode16}
-use Rattle.ji.specs.Written.{Written}
-use Rattle.ji.specs.Utf8.{decode}
-use Rattle.ji.specs.Unicode.{accepted}
-use Rattle.ji.specs.Reply.{Reply, Checked, good, placed, checkPoints}
-use Rattle.ji.specs.Reading.{Reading, Counting, pointsReply, pointsOf, pointsCall}
-use Rattle.ji.specs.declared.unicode.CharLen.{CharLen}
-use Rattle.ji.specs.declared.unicode.Decoded.{Decoded}
-use Rattle.ji.specs.declared.unicode.Decoded.TheVariants.{Points, Refused}
+use mathlib.Core.Path.{sym, ◌∙◌}
 use Rattle.ji.proofs.Replies.{placed-not, placed-written}
 use Rattle.ji.proofs.unicode.Ascii.{ascii-good}
-use Rattle.ji.proofs.unicode.Checked.{good-same, good-not-bad}
-use Rattle.ji.proofs.unicode.Laws.{spread-plain}
 use Rattle.ji.proofs.unicode.Replied.{reply}
 use Rattle.ji.proofs.unicode.points.Goals as goal
 

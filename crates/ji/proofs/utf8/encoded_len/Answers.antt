@@ -1,4 +1,3 @@
-use Prim.Native.Nat.{◌-◌}
 use Rattle.ji.proofs.utf8.Encoding.{length_at, length-end}
 use native.Mathlib.Omega.{arith}
 use Rattle.ji.proofs.utf8.encoded_len.Goals as goal

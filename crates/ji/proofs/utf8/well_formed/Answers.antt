@@ -1,5 +1,5 @@
 use mathlib.Core.Path.{refl, sym, ◌∙◌, ap}
-use Prim.Native.Nat.{ℕ, ◌+◌, ◌-◌, ◌<◌}
+use Prim.Native.Nat.{ℕ, ◌+◌, ◌<◌}
 use lib.ListN.{drop}
 use Rattle.ji.specs.Utf8.{widthAt, decode, isDecoded}
 use Rattle.ji.proofs.utf8.Decoding.{width-most, decode-at-ill, decode-end, decoded-at}

@@ -2,7 +2,6 @@ use mathlib.Core.Path.{◌≡◌, sym, ap, ◌∙◌}
 use mathlib.Core.Bool.{Bool, true, false, ◌&&◌}
 use mathlib.Core.List.{List}
 use Prim.Native.Nat.{ℕ}
-use borrow.Author.Tests.{not-true, not-false}
 use Rattle.ji.specs.Unicode.{unicode16}
 use Rattle.ji.specs.Text.{within}
 use Rattle.ji.specs.Reply.{Reply, refused, pickReply, textCall}

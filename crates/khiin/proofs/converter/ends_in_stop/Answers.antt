@@ -1,6 +1,5 @@
 use mathlib.Core.Path.{sym, ap, ◌∙◌}
 use mathlib.Core.Bool.{Bool}
-use Prim.Native.Nat.{◌-◌}
 use Rattle.khiin.proofs.converter.Laws.{stopAfter, held, stop-start, stop-first, stop-second, stop-n, stop-other, stop-end, stop-single, stop-none}
 use borrow.Author.Rules.{rules}
 use Rattle.khiin.proofs.converter.ends_in_stop.Goals as goal

@@ -1,6 +1,5 @@
 use mathlib.Core.Path.{◌≡◌, sym, ap, ◌∙◌}
 use mathlib.Core.Bool.{Bool, true, false, ◌&&◌}
-use borrow.Author.Tests.{not-true, not-false}
 use Rattle.ji.proofs.Bools.{and-yes, and-false}
 use Rattle.khiin.specs.Converter.{isSetting, settingsFit}
 use Rattle.khiin.specs.declared.converter.ToneKeys.{ToneKeys}

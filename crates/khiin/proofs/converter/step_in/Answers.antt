@@ -116,16 +116,16 @@ module _ (k : ToneKeys) (key : ℕ) (text lent out : List ℕ) (short : length t
 known : (c : Joined-copy_ascii) → Known c.args.k c.args.key c.args.text.now c.args.bytes.now c.args.out.now c.requires.1 c.if-copy_ascii.bytes c.if-copy_ascii.n c.if-copy_ascii.tone c.if-copy_ascii.edit
 known c =
     elim c.if-copy_ascii.branch [
-      then-copy_ascii w ↦
-        let ascii = c.copy_ascii.ensures w.if-copy_ascii.true in
-        rw (w.bytes-is, w.n-is, w.tone-is, w.edit-is)
-        (ascii-known c.args.k c.args.key c.args.text.now c.args.bytes.now c.args.out.now c.requires.1 c.copy_ascii.new.bytes c.copy_ascii.auto.bytes ascii.0 ascii.1
-        w.unmarked_tone-tone.result w.unmarked_tone-tone.ensures)
-    | else-copy_ascii+in-Done w ↦
-        rw (w.bytes-is, w.n-is, w.tone-is, w.edit-is)
-        (stripped-known c.args.k c.args.key c.args.text.now c.args.bytes.now c.args.out.now c.requires.1 c.copy_ascii.new.bytes w.strip_tone_diacritic.new.out
-        w.strip_tone_diacritic.result w.strip_tone_diacritic.ensures c.copy_ascii.auto.bytes w.in-Done.result w.in-Done.is
-        w.edit_of-edit.result w.edit_of-edit.ensures)
+      | then-copy_ascii w ↦
+          let ascii = c.copy_ascii.ensures w.if-copy_ascii.true in
+          rw (w.bytes-is, w.n-is, w.tone-is, w.edit-is)
+          (ascii-known c.args.k c.args.key c.args.text.now c.args.bytes.now c.args.out.now c.requires.1 c.copy_ascii.new.bytes c.copy_ascii.auto.bytes ascii.0 ascii.1
+          w.unmarked_tone-tone.result w.unmarked_tone-tone.ensures)
+      | else-copy_ascii+in-Done w ↦
+          rw (w.bytes-is, w.n-is, w.tone-is, w.edit-is)
+          (stripped-known c.args.k c.args.key c.args.text.now c.args.bytes.now c.args.out.now c.requires.1 c.copy_ascii.new.bytes w.strip_tone_diacritic.new.out
+          w.strip_tone_diacritic.result w.strip_tone_diacritic.ensures c.copy_ascii.auto.bytes w.in-Done.result w.in-Done.is
+          w.edit_of-edit.result w.edit_of-edit.ensures)
     ]
 
 pub copy_ascii-requires : goal.copy_ascii-requires

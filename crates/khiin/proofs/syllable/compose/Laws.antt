@@ -1,28 +1,24 @@
 -- Laws of the rules by which a body is spelled, of the front of a buffer, and of the call.
 use mathlib.Core.Path.{◌≡◌, refl, sym, ap, ap₂, ◌∙◌, subst}
 use mathlib.Core.Bool.{Bool, true, false, not, ◌&&◌, ◌||◌}
-use mathlib.Core.List.{List, [], ◌∷◌, ◌++◌, map, append_assoc}
-use mathlib.Core.Option.{Option, none, some, some-injective}
-use Prim.Native.Nat.{ℕ, zero, suc, ◌+◌, ◌-◌, ◌*◌, ◌≤◌, ◌<◌, suc-le-suc}
+use mathlib.Core.List.{List, [], ◌∷◌, ◌++◌}
+use Prim.Native.Nat.{ℕ, suc, ◌+◌, ◌-◌, ◌≤◌, ◌<◌, suc-le-suc}
 use native.Mathlib.Nat.{sub-zero}
-use native.Mathlib.Decide.{dec_le, ℕ_discrete}
 use native.Mathlib.Omega.{arith}
-use borrow.Author.Tests.{eq-eqb, ne_eqb, eqb-true, eqb-false, ltb-true, lt-ltb}
+use borrow.Author.Tests.{eq-eqb, ne_eqb, eqb-true, eqb-false}
 use lib.Dec.{ltb, eqb}
-use lib.ListN.{length, take, drop, get_or, set, length-append, length-take, length-drop, drop_of_length-le, get_or-append}
+use lib.ListN.{length, take, drop, get_or, set, length-append, length-take, drop_of_length-le, get_or-append}
 use lib.Seq.{length-take-le, take-length, take-suc, drop-cons, append_snoc, split_at, take-append-le, take-append-add, take-take, take-add, get_or-take, get_or-drop, drop-drop, drop_at, set_at}
 use Rattle.ji.specs.Unicode.{unicode16, pickText, listed}
-use Rattle.ji.specs.Text.{points, marked, point, lower, begins, replaceFrom, replaceAll, last}
-use Rattle.ji.specs.Utf8.{encode}
+use Rattle.ji.specs.Text.{points, marked, point, lower, begins, replaceAll, last}
 use Rattle.ji.specs.Written.{Written}
 use Rattle.ji.specs.Lomaji.Keys.{respell}
 use Rattle.ji.specs.declared.tone.Tone.{Tone}
 use Rattle.ji.specs.declared.lomaji.khin.Khin.{Khin}
-use Rattle.ji.proofs.Cases.{none-not-some}
-use Rattle.ji.proofs.Bools.{either, false-true, and-yes, and-no, and-true, and-false, and-left, and-right, or-yes, or-no, text-yes, text-no}
+use Rattle.ji.proofs.Bools.{either, false-true, and-no, and-true, and-false, and-left, and-right, or-yes, or-no, text-yes, text-no}
 use Rattle.ji.proofs.Writing.{written-length, written-take, written-drop, stores-2}
 use Rattle.ji.proofs.Underway.{Underway, underway-start, underway-one, underway-run, underway-end}
-use Rattle.ji.proofs.text.Laws.{drop-next, begins-short, begins-split, replace-nil, replace-hit, replace-miss, replace-point, replace-other, replace-growth, replace-induction}
+use Rattle.ji.proofs.text.Laws.{drop-next, begins-split, replace-nil, replace-hit, replace-miss, replace-point, replace-other, replace-growth, replace-induction}
 use Rattle.khiin.specs.Syllable.{nasalRules, oRules, isNasalEnd, endsNasal, nasalised, moved, spelled, khinText, mark_of, composedWith, compose}
 use Rattle.khiin.specs.Compose.{Front, isPair, beginsAny, takesDot, settledBody, inserted}
 

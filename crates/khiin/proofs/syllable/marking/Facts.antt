@@ -1,16 +1,16 @@
 -- What the quick way rests on of the table, each from a test that is computed over its rows.
 use mathlib.Core.Path.{◌≡◌, refl, sym, ap, ◌∙◌, subst}
-use mathlib.Core.Bool.{Bool, true, false, not, ◌&&◌, ◌||◌}
-use mathlib.Core.List.{List, [], ◌∷◌, ◌++◌}
+use mathlib.Core.Bool.{Bool, true, false, not, ◌&&◌}
+use mathlib.Core.List.{List, [], ◌∷◌}
 use mathlib.Core.Option.{Option, none, some, some-injective}
 use Prim.Native.Nat.{ℕ, ◌≤◌, ◌<◌}
 use native.Mathlib.Omega.{arith}
 use lib.Dec.{T, leb, ltb, eqb, leb→le, ltb→lt, eqb→eq}
-use borrow.Author.Tests.{ne_eqb, eq-eqb, eqb-true, leb-true, ltb-true}
-use Rattle.ji.specs.Unicode.{Table, unicode16, mappings16, classes16, exclusions16, pickText, pickNumber, spread, same, listed, mappingIn, classIn, decomposition, combiningClass, isComposite, compositeIn, composite, pass, passes, full}
+use borrow.Author.Tests.{ne_eqb, leb-true}
+use Rattle.ji.specs.Unicode.{Table, unicode16, mappings16, classes16, spread, same, listed, mappingIn, classIn, decomposition, combiningClass, isComposite, compositeIn, composite, pass, passes, full}
 use Rattle.ji.specs.Text.{points}
 use Rattle.ji.proofs.Cases.{none-not-some}
-use Rattle.ji.proofs.Bools.{either, false-true, and-left, and-right, number-yes, number-no, text-yes, text-no}
+use Rattle.ji.proofs.Bools.{either, false-true, and-left, and-right, number-no, text-yes, text-no}
 use Rattle.ji.proofs.unicode.Bytes.{same-equal}
 use Rattle.ji.proofs.unicode.Laws.{spread-itself}
 use Rattle.khiin.specs.Compose.{isMark, Joined}

@@ -9,7 +9,7 @@ use native.Mathlib.Numerals.{add-one}
 use native.Mathlib.Omega.{arith}
 use lib.ListN.{length, take, drop, get_or, set}
 use lib.Seq.{length-take-le, take_at, take-set-lt, set_split, get_or-take}
-use Rattle.ji.specs.Unicode.{unicode16, composite}
+use Rattle.ji.specs.Unicode.{unicode16}
 use Rattle.ji.specs.declared.tone.Tone.{Tone}
 use Rattle.khiin.specs.Syllable.{mark_of, encoded}
 use Rattle.khiin.specs.Compose.{markText, inserted, settledFrom, Joined}

@@ -9,22 +9,20 @@ use native.Mathlib.Decide.{ℕ_discrete}
 use native.Mathlib.Omega.{arith}
 use lib.Dec.{ltb, eqb}
 use lib.ListN.{get_or}
-use borrow.Author.Tests.{eq-eqb, ne_eqb, eqb-true, eqb-false, ltb-true, lt-ltb}
+use borrow.Author.Tests.{eq-eqb, ne_eqb, eqb-true, ltb-true}
 use Rattle.ji.specs.Unicode.{unicode16, listed, mappings16, classes16, mappingIn, classIn, decomposition, combiningClass, composite, pass, passes, full}
 use Rattle.ji.specs.Text.{points, begins, replaceAll}
-use Rattle.ji.specs.Nfd.{Reorderable, here, there, more, NoPair, Ordered, order, nfd}
+use Rattle.ji.specs.Nfd.{Reorderable, here, there, more, Ordered, order, nfd}
 use Rattle.ji.specs.Nfd.{none as no-exchange}
 use Rattle.ji.specs.Nfc.{pickDone, behind, under, reversed, absorb, composeFrom, nfc}
 use Rattle.ji.specs.Nfc.{compose as composition}
-use Rattle.ji.specs.declared.tone.Tone.{Tone}
-use Rattle.ji.specs.declared.tone.Tone.TheVariants.{None, T1, T2, T3, T4, T5, T6, T7, T8, T9}
-use Rattle.ji.proofs.Bools.{either, false-true, and-yes, and-no, and-false, and-left, and-right, or-yes, or-no}
+use Rattle.ji.proofs.Bools.{either, false-true, and-yes, and-no, and-false, and-left, and-right, or-no}
 use Rattle.ji.proofs.text.Laws.{replace-nil, replace-hit, replace-miss}
 use Rattle.ji.proofs.Order.{exchanges-behind, ordered-fixed, order-only}
 use Rattle.ji.proofs.Composition.{reversed-at, reversed-reversed, compose-nil, compose-kept, compose-absorbed}
 use Rattle.ji.proofs.ComposeLoops.{low-stays}
 use Rattle.ji.proofs.Decomposition.{full-nil, full-cons}
-use Rattle.khiin.specs.Syllable.{mark_of, encoded}
+use Rattle.khiin.specs.Syllable.{encoded}
 use Rattle.khiin.specs.Compose.{staysBehind, settledFrom, isMark}
 use Rattle.ji.proofs.unicode.Laws.{dot-full}
 use Rattle.khiin.proofs.syllable.marking.Facts.{low-starter, dots-class, dot-class, small-class, capital-class, low-full, dots-full, small-full, capital-full, no-composite}
@@ -425,6 +423,7 @@ mark-at k class itself differs two m e =
 
 no-mark : (m : ℕ) → ◌≡◌ {A = List ℕ} [] (m ∷ []) → IsMark m
 no-mark m e = absurd (let z : ◌≡◌ {A = ℕ} 0 1 = cc in omega arith)
+
 -- by the list of them
 pub listed-mark : (m : ℕ) → isMark m ≡ true → IsMark m
 unfolding combiningClass classIn classes16 unicode16 full passes pass decomposition mappingIn mappings16 listed

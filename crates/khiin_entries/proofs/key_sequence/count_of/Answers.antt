@@ -1,6 +1,6 @@
 -- `key_sequence::count_of` meets its contract.
 use mathlib.Core.Path.{◌≡◌, refl, sym, ap, ap₂, ◌∙◌}
-use Prim.Native.Nat.{suc, ◌*◌, ◌-◌, ◌≤◌}
+use Prim.Native.Nat.{suc, ◌*◌, ◌≤◌}
 use native.Mathlib.Numerals.{add-one}
 use Rattle.khiin_entries.specs.Choices.{countIn}
 use Rattle.khiin_entries.proofs.key_sequence.Laying.{count-fits}

@@ -20,7 +20,6 @@ use Rattle.khiin_entries.proofs.key_sequence.lay_part.Goals as goal
 use Rattle.khiin_entries.proofs.key_sequence.lay_part.Goals.{After-put_form-end, After-put_form-mid}
 
 module _ (f : After-put_form-mid) where
-
   abbrev part : List ℕ
   part = f.args.part.now
 

@@ -15,8 +15,6 @@ use Rattle.khiin_entries.proofs.key_sequence.lay_parts.Goals.{After-part_end-end
 
 -- the part that this turn lays out
 module _ (t : After-part_end-end) where
-
-
   abbrev h : Filling t.args.entry.now t.args.kind t.loop-i.forms t.loop-i.offsets t.loop-i.lengths t.loop-i.radices t.loop-i.i t.loop-i.at t.loop-i.used
   h = t.loop-i.invariant.4
 

@@ -15,8 +15,6 @@ use Rattle.khiin_entries.proofs.key_sequence.lay_single.Goals as goal
 use Rattle.khiin_entries.proofs.key_sequence.lay_single.Goals.{After-put_form-end}
 
 module _ (b : After-put_form-end) where
-
-
   abbrev part : List ℕ
   part = b.args.part.now
 

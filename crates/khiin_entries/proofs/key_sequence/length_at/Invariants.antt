@@ -1,5 +1,5 @@
 use mathlib.Core.Path.{◌≡◌}
-use Prim.Native.Nat.{◌+◌, ◌*◌, ◌-◌, ◌≤◌}
+use Prim.Native.Nat.{◌+◌, ◌*◌, ◌≤◌}
 use Rattle.khiin_entries.specs.Choices.{lengthIn}
 use Rattle.khiin_entries.proofs.key_sequence.length_at.Given as goal
 

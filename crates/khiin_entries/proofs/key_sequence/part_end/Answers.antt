@@ -1,6 +1,5 @@
 -- `key_sequence::part_end` meets its contract. The loop's invariant: the part goes on up to `i`.
 use mathlib.Core.Path.{refl}
-use Prim.Native.Nat.{◌-◌}
 use Rattle.khiin_entries.proofs.key_sequence.Splitting.{first-ends, first-goes, first-over}
 use native.Mathlib.Omega.{arith}
 use Rattle.khiin_entries.proofs.key_sequence.part_end.Goals as goal

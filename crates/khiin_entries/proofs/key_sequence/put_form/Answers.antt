@@ -13,11 +13,10 @@ overflow_add-result c =
     omega (arith, call-length c.args.form c.args.kind c.args.part.now _ c.requires.0 (part-room c.args.forms.now c.args.at _ c.requires.1) c.keys.result _ c.keys.ensures _ c.in-Done.is)
 
 pub returns-in-Done : goal.returns-in-Done
-returns-in-Done c =
-    (
-      ap (λ (n : ℕ). c.args.at + n) (call-length c.args.form c.args.kind c.args.part.now _ c.requires.0 (part-room c.args.forms.now c.args.at _ c.requires.1) c.keys.result _ c.keys.ensures _ c.in-Done.is),
-      put-back c.args.forms.now (formBytes unicode16 c.args.form c.args.kind c.args.part.now) _ c.args.at c.requires.1 (call-buffer c.args.form c.args.kind c.args.part.now _ c.requires.0 (part-room c.args.forms.now c.args.at _ c.requires.1) c.keys.result _ c.keys.ensures _ c.in-Done.is),
-    )
+returns-in-Done c = (
+  ap (λ (n : ℕ). c.args.at + n) (call-length c.args.form c.args.kind c.args.part.now _ c.requires.0 (part-room c.args.forms.now c.args.at _ c.requires.1) c.keys.result _ c.keys.ensures _ c.in-Done.is),
+  put-back c.args.forms.now (formBytes unicode16 c.args.form c.args.kind c.args.part.now) _ c.args.at c.requires.1 (call-buffer c.args.form c.args.kind c.args.part.now _ c.requires.0 (part-room c.args.forms.now c.args.at _ c.requires.1) c.keys.result _ c.keys.ensures _ c.in-Done.is),
+)
 
 pub returns-in-Refused : goal.returns-in-Refused
 returns-in-Refused c =

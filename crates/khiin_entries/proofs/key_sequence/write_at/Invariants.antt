@@ -1,5 +1,5 @@
 -- `key_sequence::write_at` meets its contract: the pieces go in front of each other, from the last part to the first.
-use Prim.Native.Nat.{◌-◌, ◌≤◌}
+use Prim.Native.Nat.{◌≤◌}
 use Rattle.khiin_entries.specs.Choices.{lengthIn, keyingIn}
 use Rattle.khiin_entries.proofs.key_sequence.Backward.{Backward}
 use Rattle.khiin_entries.proofs.key_sequence.write_at.Given as goal

@@ -1,5 +1,4 @@
 -- `listing::put_lines` meets its contract.
-use Prim.Native.Nat.{◌-◌}
 use Prim.Native.Nat.{◌*◌, ◌≤◌}
 use native.Mathlib.Nat.{mul-le-mul}
 use lib.ListN.{length}

@@ -1,5 +1,4 @@
 use mathlib.Core.Path.{sym, ◌∙◌}
-use Prim.Native.Nat.{◌-◌}
 use lib.ListN.{drop}
 use Rattle.khiin_records.proofs.Prefixes.{prefix-more, prefix-less, prefix-keys-end, prefix-text-end}
 use native.Mathlib.Omega.{arith}

@@ -2,9 +2,8 @@ use mathlib.Core.Bool.{◌||◌}
 use lib.Dec.{eqb}
 use Rattle.ji.proofs.unicode.Bytes.{listed-nil, listed-cons}
 use mathlib.Core.Path.{◌≡◌, refl, sym, ap, ◌∙◌}
-use mathlib.Core.Bool.{true, false}
 use mathlib.Core.List.{List}
-use Prim.Native.Nat.{ℕ, ◌+◌, ◌-◌, ◌<◌}
+use Prim.Native.Nat.{ℕ, ◌+◌, ◌<◌}
 use borrow.Author.Tests.{eq-eqb, ne_eqb}
 use lib.ListN.{length, drop, get_or, drop_of_length-le}
 use Rattle.ji.specs.Unicode.{listed}

@@ -1,4 +1,3 @@
-use Prim.Native.Nat.{◌-◌}
 use Rattle.ji.proofs.Writing.{written-length}
 use Rattle.khiin_records.proofs.Walking.{walk-start, walk-ascii}
 use native.Mathlib.Omega.{arith}

@@ -150,11 +150,10 @@ pub loop-i-smaller : goal.loop-i-smaller
 loop-i-smaller c = omega (arith, c.loop-i-test.true)
 
 pub loop-i-preserved : goal.loop-i-preserved
-loop-i-preserved c =
-    (
-      omega (arith, c.loop-i.invariant.0),
-      walk-copy c.loop-i.invariant.1 c.loop-i-test.true (no-dot-here (goal.at.loop-i-preserved c).Else-is_nasal) (no-nasal-here (goal.at.loop-i-preserved c).Else-is_nasal) (sym c.is_below.ensures ∙ c.if-is_below.false) (omega (arith, before-room (goal.at.loop-i-preserved c).In-loop-i 1 (omega arith))),
-    )
+loop-i-preserved c = (
+  omega (arith, c.loop-i.invariant.0),
+  walk-copy c.loop-i.invariant.1 c.loop-i-test.true (no-dot-here (goal.at.loop-i-preserved c).Else-is_nasal) (no-nasal-here (goal.at.loop-i-preserved c).Else-is_nasal) (sym c.is_below.ensures ∙ c.if-is_below.false) (omega (arith, before-room (goal.at.loop-i-preserved c).In-loop-i 1 (omega arith))),
+)
 
 pub returns : goal.returns
 returns c =

@@ -1,7 +1,7 @@
 -- `lomaji::keys::respell_nasals` meets its contract. The loop's invariant: what the two passes make of the text up to i is written up to j.
 use mathlib.Core.Path.{◌≡◌, ap, ◌∙◌}
 use mathlib.Core.List.{List, [], ◌∷◌, ◌++◌}
-use Prim.Native.Nat.{ℕ, ◌+◌, ◌-◌, ◌≤◌, ◌<◌}
+use Prim.Native.Nat.{ℕ, ◌+◌, ◌≤◌, ◌<◌}
 use native.Mathlib.Omega.{arith}
 use lib.ListN.{length, drop, get_or, set, drop_of_length-le}
 use lib.Seq.{paste}

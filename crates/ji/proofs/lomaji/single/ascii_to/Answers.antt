@@ -1,5 +1,5 @@
 use mathlib.Core.Logic.{inl}
-use Prim.Native.Nat.{◌+◌, ◌-◌}
+use Prim.Native.Nat.{◌+◌}
 use Rattle.ji.proofs.lomaji.single.Laws.{ascii-at, kept-start, kept-more}
 use native.Mathlib.Omega.{arith}
 use Rattle.ji.proofs.lomaji.single.ascii_to.Goals as goal

@@ -1,6 +1,6 @@
 use mathlib.Core.Path.{refl}
 use mathlib.Core.Logic.{inl, inr}
-use Prim.Native.Nat.{◌+◌, ◌-◌}
+use Prim.Native.Nat.{◌+◌}
 use Rattle.ji.proofs.lomaji.single.Laws.{kept-more, kept-on}
 use native.Mathlib.Omega.{arith}
 use Rattle.ji.proofs.lomaji.single.kept_to.Goals as goal

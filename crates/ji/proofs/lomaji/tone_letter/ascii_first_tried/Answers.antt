@@ -1,6 +1,4 @@
 use mathlib.Core.Path.{sym, ◌∙◌}
-use mathlib.Core.Bool.{false}
-use Prim.Native.Nat.{◌-◌}
 use native.Mathlib.Omega.{arith}
 use Rattle.ji.proofs.lomaji.tone_letter.Laws.{search-start, no-o, o-later}
 use Rattle.ji.proofs.lomaji.tone_letter.ascii_first_tried.Goals as goal

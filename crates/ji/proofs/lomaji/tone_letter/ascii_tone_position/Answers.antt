@@ -1,7 +1,7 @@
 use mathlib.Core.Path.{◌≡◌, refl, sym, ap, ◌∙◌}
 use mathlib.Core.Option.{some}
-use Prim.Native.Nat.{◌+◌, ◌-◌}
-use Rattle.ji.specs.Lomaji.ToneLetter.{patterns, bytePlaceOf}
+use Prim.Native.Nat.{◌+◌}
+use Rattle.ji.specs.Lomaji.ToneLetter.{bytePlaceOf}
 use Rattle.ji.proofs.lomaji.tone_letter.Laws.{pattern, place-start, place-here, place-later, place-end, search-here, search-next, search-end}
 use native.Mathlib.Omega.{arith}
 use Rattle.ji.proofs.lomaji.tone_letter.ascii_tone_position.Goals as goal
@@ -13,12 +13,11 @@ pub loop-at-init : goal.loop-at-init
 loop-at-init c = (c.patterns.invariant.0, place-start (pattern c.patterns.k).0 c.args.s.now)
 
 pub loop-at-preserved : goal.loop-at-preserved
-loop-at-preserved c =
-    (
-      c.loop-at.invariant.0,
-      c.loop-at.invariant.1
-          ∙ place-later (pattern c.patterns.k).0 c.args.s.now c.loop-at.at c.loop-at-test.true (sym c.ascii_stands_at.ensures ∙ c.if-ascii_stands_at.false),
-    )
+loop-at-preserved c = (
+  c.loop-at.invariant.0,
+  c.loop-at.invariant.1
+      ∙ place-later (pattern c.patterns.k).0 c.args.s.now c.loop-at.at c.loop-at-test.true (sym c.ascii_stands_at.ensures ∙ c.if-ascii_stands_at.false),
+)
 
 pub patterns-preserved : goal.patterns-preserved
 patterns-preserved c =

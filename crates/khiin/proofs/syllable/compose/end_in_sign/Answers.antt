@@ -1,6 +1,5 @@
 use mathlib.Core.Path.{◌≡◌, sym, subst}
 use mathlib.Core.List.{List, [], ◌∷◌, ◌++◌}
-use mathlib.Core.Logic.{⊎_elim}
 use Prim.Native.Nat.{ℕ, ◌-◌, ◌≤◌}
 use lib.ListN.{length, take, set}
 use Rattle.ji.specs.Lomaji.Keys.{respell}
@@ -54,6 +53,6 @@ returns c =
     let s = c.args.s.now in
     signed s 0x207F (nasal-three s c.requires.0)
     (end-small s c.requires.0 c.requires.1 (λ f g. elim c.if-s-n-eq78.branch [
-      then-s-n-eq78+else-s-n-eq78-2 w ↦ w.if-s-n-eq78-2.false g
-    | else-s-n-eq78 w ↦ w.if-s-n-eq78.false f
+      | then-s-n-eq78+else-s-n-eq78-2 w ↦ w.if-s-n-eq78-2.false g
+      | else-s-n-eq78 w ↦ w.if-s-n-eq78.false f
     ]))

@@ -1,6 +1,5 @@
 use mathlib.Core.Path.{refl, sym, ◌∙◌}
 use mathlib.Core.List.{[], ◌∷◌}
-use Prim.Native.Nat.{◌-◌}
 use Rattle.ji.proofs.Bools.{false-true}
 use Rattle.khiin.proofs.syllable.compose.Pairs.{apart-step, apart-end}
 use native.Mathlib.Omega.{arith}

@@ -1,7 +1,6 @@
 use mathlib.Core.Path.{◌≡◌, sym, ap, ◌∙◌, subst}
 use mathlib.Core.Bool.{Bool, false, ◌&&◌}
 use mathlib.Core.List.{List}
-use mathlib.Core.Logic.{⊎_elim}
 use Prim.Native.Nat.{ℕ, ◌+◌, ◌-◌, ◌≤◌, ◌<◌}
 use native.Mathlib.Decide.{ℕ_discrete}
 use borrow.Author.Tests.{ne_eqb}
@@ -47,8 +46,8 @@ loop-i-preserved c =
       omega arith,
       more s i c.loop-i.invariant.0 c.loop-i.invariant.1
           (elim c.if-lower-eq110.branch [
-            then-lower-eq110+else-lower-eq110-2 w ↦ second-not s i c.loop-i.invariant.0 (λ z. w.if-lower-eq110-2.false (w.lower-then-lower-eq110.ensures ∙ z))
-          | else-lower-eq110 w ↦ first-not s i (λ z. w.if-lower-eq110.false (c.lower.ensures ∙ z))
+            | then-lower-eq110+else-lower-eq110-2 w ↦ second-not s i c.loop-i.invariant.0 (λ z. w.if-lower-eq110-2.false (w.lower-then-lower-eq110.ensures ∙ z))
+            | else-lower-eq110 w ↦ first-not s i (λ z. w.if-lower-eq110.false (c.lower.ensures ∙ z))
           ]),
     )
 

@@ -2,7 +2,6 @@ use mathlib.Core.Path.{ap, ◌∙◌}
 use lib.ListN.{take, drop}
 use Rattle.ji.specs.Lomaji.Keys.{respell}
 use Rattle.khiin.specs.Compose.{ePairs}
-use borrow.Author.Rules.{rules}
 use Rattle.khiin.proofs.syllable.compose.respell_e.Goals as goal
 
 pub returns : goal.returns

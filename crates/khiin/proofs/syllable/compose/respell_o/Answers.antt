@@ -2,7 +2,6 @@ use mathlib.Core.Path.{ap, ◌∙◌}
 use lib.ListN.{take, drop}
 use Rattle.ji.specs.Lomaji.Keys.{respell}
 use Rattle.khiin.specs.Compose.{oPairs}
-use borrow.Author.Rules.{rules}
 use Rattle.khiin.proofs.syllable.compose.respell_o.Goals as goal
 
 pub returns : goal.returns

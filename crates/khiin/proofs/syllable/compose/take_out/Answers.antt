@@ -1,6 +1,6 @@
 use mathlib.Core.Path.{◌≡◌, sym, ap, ◌∙◌}
 use mathlib.Core.List.{List, [], ◌∷◌}
-use Prim.Native.Nat.{ℕ, ◌+◌, ◌-◌, ◌<◌}
+use Prim.Native.Nat.{ℕ, ◌+◌, ◌<◌}
 use lib.ListN.{length, drop, get_or, set, length-set}
 use Rattle.ji.specs.Text.{replaceAll}
 use Rattle.ji.proofs.text.Laws.{drop-next, replace-point, replace-other, replace-end}

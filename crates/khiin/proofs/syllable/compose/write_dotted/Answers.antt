@@ -1,7 +1,7 @@
 use lib.ListN.{length-set, length, get_or}
 use mathlib.Core.Path.{sym, ◌∙◌}
 use mathlib.Core.List.{List}
-use Prim.Native.Nat.{ℕ, ◌+◌, ◌-◌, ◌*◌, ◌≤◌, ◌<◌}
+use Prim.Native.Nat.{ℕ, ◌+◌, ◌*◌, ◌≤◌, ◌<◌}
 use Rattle.ji.proofs.Writing.{written-length}
 use Rattle.ji.proofs.Underway.{Underway, underway-start, underway-one, underway-end}
 use Rattle.khiin.specs.Syllable.{oRules}

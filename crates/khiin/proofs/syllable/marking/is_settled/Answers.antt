@@ -1,5 +1,4 @@
 use mathlib.Core.Path.{refl, ◌∙◌}
-use Prim.Native.Nat.{◌-◌}
 use Rattle.ji.proofs.Bools.{false-true}
 use Rattle.khiin.proofs.syllable.marking.Marked.{settled-step, settled-end}
 use native.Mathlib.Omega.{arith}

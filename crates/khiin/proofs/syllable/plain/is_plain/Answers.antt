@@ -1,6 +1,5 @@
 use mathlib.Core.Path.{◌≡◌, refl, sym, ◌∙◌}
 use mathlib.Core.Bool.{Bool, true, false, not}
-use Prim.Native.Nat.{◌-◌}
 use Rattle.ji.specs.Text.{points}
 use Rattle.ji.proofs.Bools.{false-true}
 use Rattle.khiin.proofs.syllable.compose.Pairs.{apart-step, apart-end}
