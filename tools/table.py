@@ -2,7 +2,10 @@
 """Makes the table of the crate `ucd` from the Unicode Character Database.
 
     tools/table.py FOLDER            write the generated files
-    tools/table.py FOLDER --check    compare them with the files on disk: a line for each that differs, and exit status 1
+    tools/table.py FOLDER --check    compare them with the files on disk, and look for composites outside the table: a line for each, and exit status 1
+
+The table is closed under composition: no code point outside it has a canonical mapping to two of its own. Nothing that the crate proves would see one,
+since a composite is looked for among the table's mappings, so the check asks the whole database.
 
 FOLDER holds UnicodeData.txt and CompositionExclusions.txt, as Debian's package `unicode-data` installs them.
 """
@@ -44,6 +47,18 @@ def read(folder):
         listed = [line.split("#")[0].split() for line in lines]
     exclusions = [int(words[0], 16) for words in listed if words and in_table(int(words[0], 16))]
     return mappings, classes, exclusions
+
+
+def outside(folder):
+    """The code points outside the table whose canonical mapping is two code points of the table."""
+    found = []
+    with open(os.path.join(folder, "UnicodeData.txt"), encoding="utf-8") as lines:
+        for line in lines:
+            fields = line.split(";")
+            parts = [] if fields[5].startswith("<") else [int(part, 16) for part in fields[5].split()]
+            if len(parts) == 2 and all(map(in_table, parts)) and not in_table(int(fields[0], 16)):
+                found.append(fields[0])
+    return found
 
 
 def depth(mappings):
@@ -123,9 +138,8 @@ def table_file(mappings, classes, exclusions):
     excluded = "".join(f"{hexa(point)} ∷ " for point in exclusions) + "[]"
     return f"""-- {NOTE}
 -- The table of Unicode 16.0: {sum(last - first + 1 for first, last in RANGES)} code points, {len(texts)} of them with a canonical mapping.
-use mathlib.Core.List.{{List, [], _∷_}}
-use Prim.Native.Nat.{{ℕ}}
-use Rattle·ucd·specs.specs.Table.{{Table}}
+use Rattle.std.specs.Prelude.{{List, [], ◌∷◌, ℕ}}
+use Rattle.ucd.specs.Table.{{Table}}
 
 -- document 01: the code points, in ranges
 unfoldable pub ranges16 : List (ℕ × ℕ)
@@ -166,7 +180,7 @@ def data_file(rows, modulus):
     """The numbers of the rows, for the proofs."""
     text = f"""-- {NOTE}
 -- The numbers that the rows of src/table.rt hold: each row with its number, which is that of its first place divided by {ROW}.
-use mathlib.Core.List.{{List, [], _∷_}}
+use mathlib.Core.List.{{List, [], ◌∷◌}}
 use Prim.Native.Nat.{{ℕ}}
 """
     text += declared_rows(
@@ -262,38 +276,56 @@ pub(crate) fn candidate(a: u16, b: u16) -> u16
 
 def answer(goal, body, unfolding):
     """The answer of one goal."""
-    return f"\npub {goal} : goal.{goal}\nunfolding {unfolding}\n{goal} c = {body}\n"
+    return f"\npub {goal} : goal.{goal}\nunfolding {unfolding}\n{goal} c ={body}\n"
 
 
-def lookup_proof(function, about, rows, numbers, arm, rest):
-    """The answers of a function that is a match on the number of a row: one for each arm, and one for the last. `arm` and `rest` are the two laws."""
-    laws = sorted({arm.split()[0], rest.split()[0]})
+def lookup_answers(function, law, rows, numbers):
+    """The answers of a function that is a match on the number of a row: one for each arm, and one for the last."""
     text = f"""-- {NOTE}
--- `ucd::table::{function}` meets its contract: {about} Assumes nothing.
+-- `ucd::table::{function}` meets its contract: each arm reads a row of the quick form, and the last arm none. Assumes nothing.
 use Rattle.std.proofs.Common.{{rules}}
 use Rattle.ucd.proofs.RowData.{{{numbers}}}
-use Rattle.ucd.proofs.Rows.{{{", ".join(laws)}}}
+use Rattle.ucd.proofs.Rows.{{{law}-arm, {law}-rest}}
 use Rattle.ucd.proofs.table.{function}.Goals as goal
 """
     for number, _ in rows:
-        text += answer(f"returns-in-{number}", f"{arm} {number} c.in-{number}.is", numbers)
-    return text + answer("returns-in_default", f"{rest} (search rules)", numbers)
+        text += answer(f"returns-in-{number}", f" {law}-arm c.args.c {number} c.in-{number}.is", numbers)
+    return text + answer("returns-in_default", f" {law}-rest c.args.c (search rules)", numbers)
 
 
-def answers(rows):
-    """The files of answers: the path of each below the crate, and its text."""
-    each = "each arm reads a row of the quick form, and the last arm none."
-    of_mark, of_pair = "c.args.b", "c.args.a c.args.b c.displacement-mark.result c.displacement-mark.ensures"
-    lookups = [
-        ("mapping_number", "mappings", "mappingNumbers", "mapping-arm c.args.c", "mapping-rest c.args.c"),
-        ("class_number", "classes", "classNumbers", "class-arm c.args.c", "class-rest c.args.c"),
-        ("displacement", "displacements", "displacementNumbers", f"displacement-arm {of_mark}", f"displacement-rest {of_mark}"),
-        ("candidate", "candidates", "candidateNumbers", f"candidate-arm {of_pair}", f"candidate-rest {of_pair}"),
-    ]
-    return {
-        f"proofs/table/{function}/Answers.antt": lookup_proof(function, each, rows[kind], numbers, arm, rest)
-        for function, kind, numbers, arm, rest in lookups
-    }
+def candidate_answers(marks, candidates):
+    """The answers of `candidate`, which reads the displacement of a mark and then the candidate. An arm of the second match whose number the first has
+    too gets a count behind its name."""
+    arms = [f"in-{number}" for number, _ in marks]
+    text = f"""-- {NOTE}
+-- `ucd::table::candidate` meets its contract: the first match reads the displacement of b, and the second the candidate. Assumes nothing.
+use Rattle.std.proofs.Common.{{◌≡◌, ◌∙◌, rules}}
+use Rattle.ucd.proofs.RowData.{{displacementNumbers, candidateNumbers}}
+use Rattle.ucd.proofs.RowLaw.{{numberAt}}
+use Rattle.ucd.proofs.Rows.{{displacement-arm, displacement-rest, candidate-arm, candidate-rest}}
+use Rattle.ucd.proofs.table.candidate.Goals as goal
+use Rattle.ucd.proofs.table.candidate.Goals.{{Joined-b-div32, {", ".join(arms)}, in_default}}
+
+-- the first match reads the displacement of b
+displaced : (c : Joined-b-div32) → c.match-b-div32.displacement ≡ numberAt displacementNumbers c.args.b
+unfolding displacementNumbers
+displaced c =
+    elim c.match-b-div32.branch [
+"""
+    for arm, (number, _) in zip(arms, marks):
+        text += f"      | {arm} w ↦ w.displacement-is ∙ displacement-arm c.args.b {number} w.{arm}.is\n"
+    text += "      | in_default w ↦ w.displacement-is ∙ displacement-rest c.args.b (search rules)\n    ]\n"
+    taken = {number for number, _ in marks}
+    for number, _ in candidates:
+        arm = f"in-{number}-2" if number in taken else f"in-{number}"
+        text += candidate_answer(f"returns-{arm}", "candidate-arm", f"{number} c.{arm}.is")
+    return text + candidate_answer("returns-in_default-2", "candidate-rest", "(search rules)")
+
+
+def candidate_answer(goal, law, end):
+    """One of them, at the displacement that the first match read."""
+    displaced = f"c.match-b-div32.displacement (displaced (goal.at.{goal} c).Joined-b-div32)"
+    return answer(goal, f"\n    {law} c.args.a c.args.b {displaced} {end}", "candidateNumbers")
 
 
 def generated(folder):
@@ -310,7 +342,9 @@ def generated(folder):
         "specs/Unicode16.antt": table_file(mappings, classes, exclusions),
         "src/table.rt": source_file(rows, modulus),
         "proofs/RowData.antt": data_file(rows, modulus),
-        **answers(rows),
+        "proofs/table/mapping_number/Answers.antt": lookup_answers("mapping_number", "mapping", rows["mappings"], "mappingNumbers"),
+        "proofs/table/class_number/Answers.antt": lookup_answers("class_number", "class", rows["classes"], "classNumbers"),
+        "proofs/table/candidate/Answers.antt": candidate_answers(rows["displacements"], rows["candidates"]),
     }
 
 
@@ -337,6 +371,9 @@ def main(arguments):
         elif on_disk(path) != text:
             print(f"crates/ucd/{name} is not what the database gives")
             status = 1
+    for point in outside(arguments[0]) if check else []:
+        print(f"{point} is outside the table, and composed of two of its code points")
+        status = 1
     return status
 
 
