@@ -1,4 +1,4 @@
-// Parts of the libraries that are no C function of their own, exported to be compared with the Rust and timed. Not shipped.
+// Parts of the libraries that are no C function of their own. The crate workbench_c exports them, to be compared with the Rust and timed. Not shipped.
 #![tactic(auto)]
 
 ghost use Rattle.std.specs.Prelude.{◌≡◌, []};
