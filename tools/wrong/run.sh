@@ -1,0 +1,65 @@
+#!/usr/bin/env bash
+# Tries wrong programs in a copy of the repository: the must-fail edits of the gate, and the further ones below this folder, in the same format. The prover has
+# to refuse each. Prints what each does and where it is first refused, in the words of rt, which cuts them after 160 characters. Fails if one is still proved,
+# cannot be made or compiled, or is refused only because a proof file names what it took away.
+#   run.sh [CRATE..]    the crates whose edits are tried; else every crate that has some
+set -euo pipefail
+here=$(cd "$(dirname "$0")" && pwd)
+root=$(cd "$here/../.." && pwd)
+copy=$(mktemp -d)
+trap 'rm -rf "$copy"' EXIT
+
+tar -C "$root" --exclude=out -cf - crates crates.txt | tar -C "$copy" -xf -
+cd "$copy"
+crates=()
+for crate in $(sed -n 's/^\([a-z][a-z0-9_]*\)[^#:]*:.*/\1/p' crates.txt); do
+    [[ $# = 0 || " $* " = *" $crate "* ]] || continue
+    mkdir -p "crates/$crate/must-fail"
+    for edit in "$here/$crate"/*.edit; do
+        [ -e "$edit" ] || continue
+        [ ! -e "crates/$crate/must-fail/${edit##*/}" ] || { echo "$crate has two edits ${edit##*/}" >&2; exit 1; }
+        cp "$edit" "crates/$crate/must-fail"
+    done
+    [ -z "$(ls "crates/$crate/must-fail")" ] || crates+=("$crate")
+done
+
+for crate in "${crates[@]}"; do
+    echo "proving $crate" >&2
+    (cd "crates/$crate" && rt check) > log 2>&1 || { tail -n 20 log >&2; exit 1; }
+done
+echo "trying the edits" >&2
+rt must-fail "${crates[@]}" > log 2>&1 || true
+
+# Whether a goal that is left open says something of the contract: the prover found values against it, or the function that it is of has no proof file that the
+# edit could have made unfit.
+tells() { # the crate, the place in its sources, and what is said
+    [[ $3 != *'the facts known there allow'* ]] || return 0
+    local file=${2%:*} name
+    name=$(head -n "${2##*:}" "crates/$1/$file" | sed -n 's/.*\bfn \([a-z0-9_]*\)(.*/\1/p' | tail -n 1)
+    file=${file#src/} file=${file%.rt}
+    [ -n "$name" ] && [ ! -e "crates/$1/proofs/${file/#lib/.}/$name" ]
+}
+
+said='^refused, as it must be: (note: )?(\./)?([^:]+:[0-9]+):[0-9]+: (.*)$'
+unfit='has no `|has no field|not in scope|was not admitted|can be named'
+tried=0 failed=0
+echo '| crate | wrong program | what it does | first refused at | why |'
+echo '|---|---|---|---|---|'
+for crate in "${crates[@]}"; do
+    for edit in "crates/$crate/must-fail"/*.edit; do
+        label=$(basename "$edit" .edit)
+        line=$(sed -n "s|^rt: must-fail $crate/$label.edit: ||p" log | head -n 1)
+        where='**nowhere, for a fact**' why=${line:-rt says nothing of it}
+        if [[ $line =~ $said ]]; then
+            place=${BASH_REMATCH[3]} words=${BASH_REMATCH[4]#error: }
+            if [[ $words =~ $unfit ]]; then :
+            elif [ -z "${BASH_REMATCH[1]}" ] || tells "$crate" "$place" "$words"; then where=$place why=$words; fi
+        fi
+        tried=$((tried + 1))
+        [ "$where" = "${place-}" ] || failed=$((failed + 1))
+        echo "| $crate | $label | $(sed -n '1s/^# *//p' "$edit") | $where | ${why//|/\\|} |"
+    done
+done
+echo
+echo "$tried wrong programs: $((tried - failed)) refused for a fact that no longer holds, $failed not"
+[ "$failed" = 0 ]
