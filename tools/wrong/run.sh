@@ -49,14 +49,13 @@ for crate in "${crates[@]}"; do
     for edit in "crates/$crate/must-fail"/*.edit; do
         label=$(basename "$edit" .edit)
         line=$(sed -n "s|^rt: must-fail $crate/$label.edit: ||p" log | head -n 1)
-        where='**nowhere, for a fact**' why=${line:-rt says nothing of it}
+        good=no
         if [[ $line =~ $said ]]; then
-            place=${BASH_REMATCH[3]} words=${BASH_REMATCH[4]#error: }
-            if [[ $words =~ $unfit ]]; then :
-            elif [ -z "${BASH_REMATCH[1]}" ] || tells "$crate" "$place" "$words"; then where=$place why=$words; fi
+            is_note=${BASH_REMATCH[1]} where=${BASH_REMATCH[3]} why=${BASH_REMATCH[4]#error: }
+            if [[ ! $why =~ $unfit ]] && { [ -z "$is_note" ] || tells "$crate" "$where" "$why"; }; then good=yes; fi
         fi
         tried=$((tried + 1))
-        [ "$where" = "${place-}" ] || failed=$((failed + 1))
+        [ $good = yes ] || { failed=$((failed + 1)) where='**not refused for a fact**' why=${line:-rt says nothing of it}; }
         echo "| $crate | $label | $(sed -n '1s/^# *//p' "$edit") | $where | ${why//|/\\|} |"
     done
 done
