@@ -9,8 +9,9 @@ root=$(cd "$here/../.." && pwd)
 copy=$(mktemp -d)
 trap 'rm -rf "$copy"' EXIT
 
-tar -C "$root" --exclude=out -cf - crates crates.txt | tar -C "$copy" -xf -
 cd "$copy"
+tar -C "$root" --exclude=out -cf as-it-stands.tar crates crates.txt
+tar -xf as-it-stands.tar
 crates=()
 for crate in $(sed -n 's/^\([a-z][a-z0-9_]*\)[^#:]*:.*/\1/p' crates.txt); do
     [[ $# = 0 || " $* " = *" $crate "* ]] || continue
@@ -30,18 +31,28 @@ done
 echo "trying the edits" >&2
 rt must-fail "${crates[@]}" > log 2>&1 || true
 
-# Whether a goal that is left open says something of the contract: the prover found values against it, or the function that it is of has no proof file that the
-# edit could have made unfit.
-tells() { # the crate, the place in its sources, and what is said
-    [[ $3 != *'the facts known there allow'* ]] || return 0
-    local file=${2%:*} name
-    name=$(head -n "${2##*:}" "crates/$1/$file" | sed -n 's/.*\bfn \([a-z0-9_]*\)(.*/\1/p' | tail -n 1)
-    file=${file#src/} file=${file%.rt}
-    [ -n "$name" ] && [ ! -e "crates/$1/proofs/${file/#lib/.}/$name" ]
+# Whether a proof file names what an edit took away. rt passes over such errors, so where it speaks of a goal that is left open and of no error the edited crate
+# is checked once more, and all that is said is read.
+unfit='has no `|has no field|not in scope|was not admitted|can be named'
+is_unfit() { # the crate and the edit
+    local line path='' old='' new text is_proved=no
+    while IFS= read -r line; do
+        case $line in
+            'file: '*) path=crates/$1/${line#file: } ;;
+            'old: '*) old=${line#old: } ;;
+            'new:'*)
+                new=${line#new:} text=$(cat "$path" && echo .)
+                text=${text/"$old"/"${new# }"}
+                printf %s "${text%.}" > "$path"
+                ;;
+        esac
+    done < "$2"
+    (cd "crates/$1" && rt check) > again 2>&1 && is_proved=yes
+    tar -xf as-it-stands.tar "crates/$1"
+    [ $is_proved = yes ] || grep -qE "$unfit" again
 }
 
 said='^refused, as it must be: (note: )?(\./)?([^:]+:[0-9]+):[0-9]+: (.*)$'
-unfit='has no `|has no field|not in scope|was not admitted|can be named'
 tried=0 failed=0
 echo '| crate | wrong program | what it does | first refused at | why |'
 echo '|---|---|---|---|---|'
@@ -52,7 +63,7 @@ for crate in "${crates[@]}"; do
         good=no
         if [[ $line =~ $said ]]; then
             is_note=${BASH_REMATCH[1]} where=${BASH_REMATCH[3]} why=${BASH_REMATCH[4]#error: }
-            if [[ ! $why =~ $unfit ]] && { [ -z "$is_note" ] || tells "$crate" "$where" "$why"; }; then good=yes; fi
+            if [[ ! $why =~ $unfit ]] && { [ -z "$is_note" ] || ! is_unfit "$crate" "$edit"; }; then good=yes; fi
         fi
         tried=$((tried + 1))
         [ $good = yes ] || { failed=$((failed + 1)) where='**not refused for a fact**' why=${line:-rt says nothing of it}; }
