@@ -1,5 +1,5 @@
 #!/usr/bin/env bash
-# Counts the instructions of a call on syllables, in each archive that is named, so that two of them can be compared without a clock: the count is the same in
+# Counts the instructions of a call on syllables and on a long text, in each archive that is named, so that two of them can be compared without a clock: the count is the same in
 # every run. Valgrind's callgrind counts a program that makes the call 1,000 times and one that makes it 3,000 times; the difference divided by 2,000 stands here.
 # It has the program's own choice of the call in it, the same for each archive.
 #   run.sh ARCHIVE..    librobinflint.a of this commit, and of others
@@ -18,7 +18,9 @@ counted() { # program, its arguments
     valgrind --tool=callgrind --callgrind-out-file=/dev/null "$@" 2>&1 | sed -n 's/.*refs: *//p' | tr -d ,
 }
 while IFS='|' read -r call text second; do
-    row="| $call \`$text\`${second:+ and \`$second\`} |"
+    label="\`$text\`"
+    [ ${#text} -le 24 ] || label="\`${text:0:12}\`.., $(printf %s "$text" | wc -c) bytes"
+    row="| $call $label${second:+ and \`$second\`} |"
     for program in "${programs[@]}"; do
         few=$(counted "$program" 1000 "$call" "$text" "$second")
         many=$(counted "$program" 3000 "$call" "$text" "$second")
