@@ -3,8 +3,8 @@ use Rattle.std.specs.Prelude.{List, [], ◌∷◌, ◌++◌, ℕ}
 use Rattle.ji.specs.Text.{points, marked}
 
 -- raw keys, and what compose writes from the record that from_raw makes of them
-abbrev pub composedKeys : List (List ℕ × List ℕ)
-composedKeys =
+abbrev pub composed_keys : List (List ℕ × List ℕ)
+composed_keys =
     (points "oo2", points "ó" ++ (0x0358 ∷ []))
     ∷ (points "eo8", marked "o" 0x030D ++ (0x0324 ∷ []))
     ∷ (points "onn1", marked "o" 0x0358 ++ points "ⁿ")
@@ -21,8 +21,8 @@ composedKeys =
 
 -- bodies, and how they are spelled: sixteen passes; every nn, and only where the text ends in one; the moves to the end; the O rules, and what has
 -- none
-abbrev pub spelledBodies : List (List ℕ × List ℕ)
-spelledBodies =
+abbrev pub spelled_bodies : List (List ℕ × List ℕ)
+spelled_bodies =
     (points "Ooo", marked "O" 0x0358 ++ (0x0358 ∷ []))
     ∷ (points "annonn", points "aⁿ" ++ (marked "o" 0x0358 ++ points "ⁿ"))
     ∷ (points "nna", points "nna")

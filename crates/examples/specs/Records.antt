@@ -10,8 +10,8 @@ use Rattle.ji.specs.declared.lomaji.khin.Khin.TheVariants.{No, Yes}
 abbrev pub Raw : Type 0
 Raw = List ℕ × List ℕ × List ℕ × Tone
 
-abbrev pub fromKeys : List Raw
-fromKeys =
+abbrev pub from_keys : List Raw
+from_keys =
     ([], [], [], None)
     ∷ (points "hoan2", points "hoan", points "2", T2)
     ∷ (points "a0", points "a0", [], None)

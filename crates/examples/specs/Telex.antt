@@ -12,8 +12,8 @@ abbrev pub usual : ToneKeys
 usual =
     record { t2 = point "s"; t3 = point "f"; t5 = point "l"; t6 = point "x"; t7 = point "j"; t8 = point "j"; t9 = point "w" }
 
-abbrev pub withUsual : List Typed
-withUsual =
+abbrev pub with_usual : List Typed
+with_usual =
     -- the key of the text's tone again, in the case that is typed
     (points "ā", (point "j", points "aj"))
     ∷ (points "á", (point "S", points "aS"))
@@ -43,21 +43,21 @@ withUsual =
     ∷ []
 
 -- digits, whatever is set
-abbrev pub withDigits : List Typed
-withDigits = (points "a", (point "2", points "á")) ∷ (points "a", (point "s", points "as")) ∷ []
+abbrev pub with_digits : List Typed
+with_digits = (points "a", (point "2", points "á")) ∷ (points "a", (point "s", points "as")) ∷ []
 
 -- t8 has the key of t9: "tone keys are tried t2 t3 t5 t6 t7 t9 t8", so that a text that ends in no stop takes tone 9
 abbrev pub shared : ToneKeys
 shared =
     record { t2 = point "s"; t3 = point "f"; t5 = point "l"; t6 = point "x"; t7 = point "j"; t8 = point "w"; t9 = point "w" }
 
-abbrev pub withShared : List Typed
-withShared = (points "a", (point "w", points "ă")) ∷ (points "ahⁿ", (point "w", marked "a" 0x030D ++ points "hⁿ")) ∷ []
+abbrev pub with_shared : List Typed
+with_shared = (points "a", (point "w", points "ă")) ∷ (points "ahⁿ", (point "w", marked "a" 0x030D ++ points "hⁿ")) ∷ []
 
 -- an upper-case key, which no typed key in lower case matches: it acts through the shared t8 alone
 abbrev pub upper : ToneKeys
 upper =
     record { t2 = point "S"; t3 = point "f"; t5 = point "l"; t6 = point "x"; t7 = point "j"; t8 = point "S"; t9 = point "w" }
 
-abbrev pub withUpper : List Typed
-withUpper = (points "a", (point "S", points "aS")) ∷ (marked "a" 0x030D ++ points "h", (point "n", points "áhn")) ∷ []
+abbrev pub with_upper : List Typed
+with_upper = (points "a", (point "S", points "aS")) ∷ (marked "a" 0x030D ++ points "h", (point "n", points "áhn")) ∷ []

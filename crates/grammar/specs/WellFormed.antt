@@ -3,10 +3,10 @@ use Rattle.std.specs.Prelude.{Bool, true, false, not, ℕ, suc, ◌+◌, ◌-◌
 use mathlib.Core.List.{List, [], ◌∷◌, ◌++◌, map, Memᴰ}
 use Rattle.std.proofs.Math.Option.{Option, none, some}
 use Prim.Native.String.{String}
-use Rattle.ji.specs.Unicode.{unicode16, pickNumber, listed}
-use Rattle.ji.specs.Text.{points, marked, point, within, last, replaceAll}
-use Rattle.ji.specs.Tone.{pickTone}
-use Rattle.ji.specs.Lomaji.ToneLetter.{toneLetter}
+use Rattle.ji.specs.Unicode.{unicode16, pick_number, listed}
+use Rattle.ji.specs.Text.{points, marked, point, within, last, replace_all}
+use Rattle.ji.specs.Tone.{pick_tone}
+use Rattle.ji.specs.Lomaji.ToneLetter.{tone_letter}
 use Rattle.ji.specs.declared.tone.Tone.{Tone}
 use Rattle.ji.specs.declared.tone.Tone.TheVariants.{T1, T2, T3, T4, T5, T6, T7, T8, T9}
 use Rattle.khiin.specs.Syllable.{mark_of, encoded}
@@ -23,14 +23,14 @@ abbrev pub followed : Texts → Texts → Texts
 followed [] ys = []
 followed (x ∷ xs) ys = map (λ (y : List ℕ). x ++ y) ys ++ followed xs ys
 
-abbrev pub pickTexts : Bool → Texts → Texts → Texts
-pickTexts true a b = a
-pickTexts false a b = b
+abbrev pub pick_texts : Bool → Texts → Texts → Texts
+pick_texts true a b = a
+pick_texts false a b = b
 
 -- the texts that pass a test
 abbrev pub passing : (List ℕ → Bool) → Texts → Texts
 passing test [] = []
-passing test (x ∷ xs) = pickTexts (test x) (x ∷ passing test xs) (passing test xs)
+passing test (x ∷ xs) = pick_texts (test x) (x ∷ passing test xs) (passing test xs)
 
 -- ── a syllable without its tone
 -- "onset (none, p ph b m t th n l k kh g ng h ch chh j s)"
@@ -52,11 +52,11 @@ abbrev pub syllabics : Texts
 syllabics = followed (quoted ("m" ∷ "ng" ∷ [])) (quoted ("" ∷ "h" ∷ []))
 
 -- "207F may end it after a nucleus with coda none or h, unless the nucleus ends in plain o"
-abbrev pub endsInPlainO : List ℕ → Bool
-endsInPlainO s = eqb (last s) (point "o")
+abbrev pub ends_in_plain_o : List ℕ → Bool
+ends_in_plain_o s = eqb (last s) (point "o")
 
 abbrev pub nasals : Texts
-nasals = followed (passing (λ (n : List ℕ). not (endsInPlainO n)) nuclei) (quoted ("ⁿ" ∷ "hⁿ" ∷ []))
+nasals = followed (passing (λ (n : List ℕ). not (ends_in_plain_o n)) nuclei) (quoted ("ⁿ" ∷ "hⁿ" ∷ []))
 
 -- what may follow the onset
 unfoldable pub rimes : Texts
@@ -64,7 +64,7 @@ rimes = followed nuclei codas ++ (nasals ++ syllabics)
 
 -- "The first letter may be upper case"
 abbrev pub upper : ℕ → ℕ
-upper c = pickNumber (within (point "a") (point "z") c) (c - 32) c
+upper c = pick_number (within (point "a") (point "z") c) (c - 32) c
 
 abbrev pub cased : Bool → List ℕ → List ℕ
 cased false s = s
@@ -74,11 +74,11 @@ cased true (c ∷ s) = upper c ∷ s
 -- ── its tone
 -- "a coda p t k h or the final h", before 207F if there is one
 unfoldable pub stopped : List ℕ → Bool
-stopped rime = listed (points "ptkh") (last (replaceAll (points "ⁿ") [] rime))
+stopped rime = listed (points "ptkh") (last (replace_all (points "ⁿ") [] rime))
 
 -- "T4 has a coda p t k h or the final h ..; T1 has neither of those ..; the other seven tones"
-abbrev pub tonesOf : List ℕ → List Tone
-tonesOf rime = pickTone (stopped rime) T4 T1 ∷ T2 ∷ T3 ∷ T5 ∷ T6 ∷ T7 ∷ T8 ∷ T9 ∷ []
+abbrev pub tones_of : List ℕ → List Tone
+tones_of rime = pick_tone (stopped rime) T4 T1 ∷ T2 ∷ T3 ∷ T5 ∷ T6 ∷ T7 ∷ T8 ∷ T9 ∷ []
 
 -- a well-formed syllable
 pub record WellFormed : Type 0 where
@@ -86,9 +86,9 @@ pub record WellFormed : Type 0 where
   pub rime : List ℕ
   pub capital : Bool
   pub tone : Tone
-  pub onset-in : Memᴰ onset onsets
-  pub rime-in : Memᴰ rime rimes
-  pub tone-in : Memᴰ tone (tonesOf rime)
+  pub onset_in : Memᴰ onset onsets
+  pub rime_in : Memᴰ rime rimes
+  pub tone_in : Memᴰ tone (tones_of rime)
 
 -- ── its text
 -- without a mark
@@ -96,13 +96,13 @@ unfoldable pub unmarked : WellFormed → List ℕ
 unmarked s = cased s.capital (s.onset ++ s.rime)
 
 -- T4 and T1 have "no mark"; the others "have their one mark after the tone letter of the text without it"
-abbrev pub withMark : List ℕ → List ℕ → Option ℕ → List ℕ
-withMark s mark none = s
-withMark s mark (some k) = take (k + 1) s ++ (mark ++ drop (k + 1) s)
+abbrev pub with_mark : List ℕ → List ℕ → Option ℕ → List ℕ
+with_mark s mark none = s
+with_mark s mark (some k) = take (k + 1) s ++ (mark ++ drop (k + 1) s)
 
 -- "Every well-formed syllable, marked or not, is in compose's encoding: NFC, then its swap"
 unfoldable pub text : WellFormed → List ℕ
-text s = encoded unicode16 (withMark (unmarked s) (mark_of s.tone) (toneLetter (unmarked s)))
+text s = encoded unicode16 (with_mark (unmarked s) (mark_of s.tone) (tone_letter (unmarked s)))
 
 -- ── an entry
 -- "exactly one space between neighbours and no other"
@@ -125,4 +125,4 @@ dotted s = listed (text s) 0x0358
 
 abbrev pub dots : List WellFormed → ℕ
 dots [] = 0
-dots (s ∷ ss) = pickNumber (dotted s) (suc (dots ss)) (dots ss)
+dots (s ∷ ss) = pick_number (dotted s) (suc (dots ss)) (dots ss)

@@ -6,8 +6,8 @@ use Prim.Native.Nat.{ℕ}
 use lib.Dec.{T}
 use Rattle.ucd.specs.Table.{Table, All, member}
 use Rattle.ucd.specs.Unicode16.{unicode16}
-use Rattle.ucd.proofs.Facts.{good, full-member, composite-member}
-use Rattle.ucd.proofs.Unicode16.{unicode16-good, unicode16-facts}
+use Rattle.ucd.proofs.Facts.{good, full_member, composite_member}
+use Rattle.ucd.proofs.Unicode16.{unicode16_good, unicode16_facts}
 use Rattle.ji.specs.Nfd.{nfd}
 use Rattle.ji.specs.Nfc.{nfc}
 use Rattle.ji.proofs.Normalisation as laws
@@ -17,18 +17,18 @@ abbrev pub Inside : Table → List ℕ → Type 0
 Inside t s = All (λ c. T (member t c)) s
 
 module _ (t : Table) (g : T (good t)) where
-  pub nfd-inside : (s : List ℕ) → Inside t s → Inside t (nfd t s)
-  nfd-inside s h = laws.nfd-in t (λ c. T (member t c)) (full-member t g) s h
+  pub nfd_inside : (s : List ℕ) → Inside t s → Inside t (nfd t s)
+  nfd_inside s h = laws.nfd_in t (λ c. T (member t c)) (full_member t g) s h
 
-  pub nfc-inside : (s : List ℕ) → Inside t s → Inside t (nfc t s)
-  nfc-inside s h = laws.nfc-in t (λ c. T (member t c)) (full-member t g) (composite-member t g) s h
+  pub nfc_inside : (s : List ℕ) → Inside t s → Inside t (nfc t s)
+  nfc_inside s h = laws.nfc_in t (λ c. T (member t c)) (full_member t g) (composite_member t g) s h
 
 -- the table in use
-pub nfd-inside-16 : (s : List ℕ) → Inside unicode16 s → Inside unicode16 (nfd unicode16 s)
-nfd-inside-16 = nfd-inside unicode16 unicode16-good
+pub nfd_inside_16 : (s : List ℕ) → Inside unicode16 s → Inside unicode16 (nfd unicode16 s)
+nfd_inside_16 = nfd_inside unicode16 unicode16_good
 
-pub nfc-inside-16 : (s : List ℕ) → Inside unicode16 s → Inside unicode16 (nfc unicode16 s)
-nfc-inside-16 = nfc-inside unicode16 unicode16-good
+pub nfc_inside_16 : (s : List ℕ) → Inside unicode16 s → Inside unicode16 (nfc unicode16 s)
+nfc_inside_16 = nfc_inside unicode16 unicode16_good
 
-pub nfd-nfc-16 : (s : List ℕ) → nfd unicode16 (nfc unicode16 s) ≡ nfd unicode16 s
-nfd-nfc-16 = laws.nfd-nfc unicode16 unicode16-facts
+pub nfd_nfc_16 : (s : List ℕ) → nfd unicode16 (nfc unicode16 s) ≡ nfd unicode16 s
+nfd_nfc_16 = laws.nfd_nfc unicode16 unicode16_facts

@@ -9,35 +9,35 @@ use native.Mathlib.Omega.{arith}
 use lib.ListN.{length, take, drop, get_or, set, length-set, length-append, length-drop, take-append-drop, drop_of_length-le}
 use lib.Seq.{take-suc, drop-cons, set_split, length-take-le, take_at, drop_at, take-suc-set, drop-set-lt, take-length, drop-length, get_or-drop, drop-drop}
 use borrow.Author.Tests.{eq-eqb, ne_eqb, lt-ltb, le-ltb}
-use Rattle.ucd.specs.Table.{Table, combiningClass, composite}
+use Rattle.ucd.specs.Table.{Table, combining_class, composite}
 use Rattle.ucd.specs.Unicode16.{unicode16}
-use Rattle.ucd.proofs.Unicode16.{low-starter, composite-mark}
-use Rattle.ji.specs.Nfc.{pickDone, behind, under, reversed, absorb, composeFrom, compose}
-use Rattle.ji.proofs.Cases.{true-not-false}
-use Rattle.ji.proofs.Composition.{reversed-cons, reversed-at, reversed-snoc, reversed-reversed, absorb-starter, compose-nil, compose-kept, compose-absorbed}
+use Rattle.ucd.proofs.Unicode16.{low_starter, composite_mark}
+use Rattle.ji.specs.Nfc.{pick_done, behind, under, reversed, absorb, compose_from, compose}
+use Rattle.ji.proofs.Cases.{true_not_false}
+use Rattle.ji.proofs.Composition.{reversed_cons, reversed_at, reversed_snoc, reversed_reversed, absorb_starter, compose_nil, compose_kept, compose_absorbed}
 
 -- what stands below U+0300 is never absorbed
-pub low-stays : (c : ℕ) → c < 0x300 → (r : List ℕ) → absorb unicode16 c r ≡ none
-low-stays c h r = absorb-starter unicode16 c (low-starter c h) (λ l p e. let k : 0x300 ≤ c = composite-mark l c p e in omega arith) r
+pub low_stays : (c : ℕ) → c < 0x300 → (r : List ℕ) → absorb unicode16 c r ≡ none
+low_stays c h r = absorb_starter unicode16 c (low_starter c h) (λ l p e. let k : 0x300 ≤ c = composite_mark l c p e in omega arith) r
 
 -- an answer, behind the code points u that the search has passed
 abbrev passed : List ℕ → Option (List ℕ) → Option (List ℕ)
 passed u none = none
 passed u (some q) = some (u ++ q)
 
-passed-nil : (o : Option (List ℕ)) → passed [] o ≡ o
-passed-nil none = refl
-passed-nil (some q) = refl
+passed_nil : (o : Option (List ℕ)) → passed [] o ≡ o
+passed_nil none = refl
+passed_nil (some q) = refl
 
-passed-under : (u : List ℕ) (b : ℕ) (o : Option (List ℕ)) → passed u (under b o) ≡ passed (u ++ (b ∷ [])) o
+passed_under : (u : List ℕ) (b : ℕ) (o : Option (List ℕ)) → passed u (under b o) ≡ passed (u ++ (b ∷ [])) o
 unfolding under
-passed-under u b none = refl
-passed-under u b (some q) = ap some (sym (append_assoc u (b ∷ []) q))
+passed_under u b none = refl
+passed_under u b (some q) = ap some (sym (append_assoc u (b ∷ []) q))
 
 module _ (t : Table) where
   -- c was absorbed into s₀, which became s, or it was not, and s₀ stayed
   abbrev pub Absorbed : List ℕ → ℕ → Bool → List ℕ → Type 0
-  Absorbed s₀ c r s = (pickDone r (some (reversed s)) none ≡ absorb t c (reversed s₀)) × (r ≡ false → s ≡ s₀)
+  Absorbed s₀ c r s = (pick_done r (some (reversed s)) none ≡ absorb t c (reversed s₀)) × (r ≡ false → s ≡ s₀)
 
   -- the search back from the end of s for the starter that c joins, at place i. Nothing is changed on the way
   pub record Searching (s₀ : List ℕ) (c : ℕ) (s : List ℕ) (i : ℕ) : Type 0 where
@@ -46,35 +46,35 @@ module _ (t : Table) where
     pub within : i ≤ length s
     pub text : absorb t c (reversed s₀) ≡ passed (reversed (drop i s)) (absorb t c (reversed (take i s)))
 
-  pub searching-start : (s : List ℕ) (c : ℕ) → Searching s c s (length s)
+  pub searching_start : (s : List ℕ) (c : ℕ) → Searching s c s (length s)
   unfolding reversed
-  searching-start s c =
-      record { same = refl; size = refl; within = omega arith; text = rw (take-length s, drop-length s) (sym (passed-nil (absorb t c (reversed s)))) }
+  searching_start s c =
+      record { same = refl; size = refl; within = omega arith; text = rw (take-length s, drop-length s) (sym (passed_nil (absorb t c (reversed s)))) }
 
   -- the turns of `absorb`
-  absorb-nil : (c : ℕ) → absorb t c (reversed []) ≡ none
+  absorb_nil : (c : ℕ) → absorb t c (reversed []) ≡ none
   unfolding absorb reversed
-  absorb-nil c = refl
+  absorb_nil c = refl
 
-  absorb-at-starter : (c b : ℕ) (r : List ℕ) → combiningClass t b ≡ 0 → absorb t c (b ∷ r) ≡ behind (composite t b c) r
+  absorb_at_starter : (c b : ℕ) (r : List ℕ) → combining_class t b ≡ 0 → absorb t c (b ∷ r) ≡ behind (composite t b c) r
   unfolding absorb
-  absorb-at-starter c b r z = rw (eq-eqb (combiningClass t b) 0 z)
+  absorb_at_starter c b r z = rw (eq-eqb (combining_class t b) 0 z)
 
-  absorb-at-block : (c b : ℕ) (r : List ℕ) → (combiningClass t b ≡ 0 → ⊥) → combiningClass t c ≤ combiningClass t b → absorb t c (b ∷ r) ≡ none
+  absorb_at_block : (c b : ℕ) (r : List ℕ) → (combining_class t b ≡ 0 → ⊥) → combining_class t c ≤ combining_class t b → absorb t c (b ∷ r) ≡ none
   unfolding absorb
-  absorb-at-block c b r n h = rw (ne_eqb (combiningClass t b) 0 n, le-ltb (combiningClass t b) (combiningClass t c) h)
+  absorb_at_block c b r n h = rw (ne_eqb (combining_class t b) 0 n, le-ltb (combining_class t b) (combining_class t c) h)
 
-  absorb-at-mark : (c b : ℕ) (r : List ℕ) → (combiningClass t b ≡ 0 → ⊥) → combiningClass t b < combiningClass t c
+  absorb_at_mark : (c b : ℕ) (r : List ℕ) → (combining_class t b ≡ 0 → ⊥) → combining_class t b < combining_class t c
       → absorb t c (b ∷ r) ≡ under b (absorb t c r)
   unfolding absorb
-  absorb-at-mark c b r n h = rw (ne_eqb (combiningClass t b) 0 n, lt-ltb (combiningClass t b) (combiningClass t c) h)
+  absorb_at_mark c b r n h = rw (ne_eqb (combining_class t b) 0 n, lt-ltb (combining_class t b) (combining_class t c) h)
 
   module _ {s₀ : List ℕ} {c : ℕ} {s : List ℕ} {i : ℕ} (p : Searching s₀ c s i) where
     stays : absorb t c (reversed s₀) ≡ none → Absorbed s₀ c false s
     stays e = (sym e, λ z. p.same)
 
-    pub searching-end : i ≤ 0 → Absorbed s₀ c false s
-    searching-end h = let z : i ≡ 0 = omega arith in stays (p.text ∙ rw (z, absorb-nil c))
+    pub searching_end : i ≤ 0 → Absorbed s₀ c false s
+    searching_end h = let z : i ≡ 0 = omega arith in stays (p.text ∙ rw (z, absorb_nil c))
 
     module _ (h : 0 < i) where
       -- the code point that is looked at, and what stands before it
@@ -87,7 +87,7 @@ module _ (t : Table) where
       front : reversed (take i s) ≡ last ∷ earlier
       front =
           let z : i ≡ suc (i - 1) = omega arith in
-          ap (λ (n : ℕ). reversed (take n s)) z ∙ ap reversed (take-suc s (i - 1) 0 (omega (arith, p.within))) ∙ reversed-snoc (take (i - 1) s) last
+          ap (λ (n : ℕ). reversed (take n s)) z ∙ ap reversed (take-suc s (i - 1) 0 (omega (arith, p.within))) ∙ reversed_snoc (take (i - 1) s) last
 
       back : drop (i - 1) s ≡ last ∷ drop i s
       back =
@@ -95,40 +95,40 @@ module _ (t : Table) where
           drop-cons s (i - 1) 0 (omega (arith, p.within)) ∙ ap (λ (n : ℕ). last ∷ drop n s) z
 
       -- it is a mark that does not block c
-      pub searching-more : (combiningClass t last ≡ 0 → ⊥) → combiningClass t last < combiningClass t c → Searching s₀ c s (i - 1)
-      searching-more n l =
+      pub searching_more : (combining_class t last ≡ 0 → ⊥) → combining_class t last < combining_class t c → Searching s₀ c s (i - 1)
+      searching_more n l =
           record {
             same = p.same;
             size = p.size;
             within = omega (arith, p.within);
             text =
                 p.text
-                ∙ rw (front, absorb-at-mark c last earlier n l, back, reversed-cons last (drop i s))
-                (passed-under (reversed (drop i s)) last (absorb t c earlier));
+                ∙ rw (front, absorb_at_mark c last earlier n l, back, reversed_cons last (drop i s))
+                (passed_under (reversed (drop i s)) last (absorb t c earlier));
           }
 
       -- one that does
-      pub searching-blocked : (combiningClass t last ≡ 0 → ⊥) → combiningClass t c ≤ combiningClass t last → Absorbed s₀ c false s
-      searching-blocked n l = stays (p.text ∙ rw (front, absorb-at-block c last earlier n l))
+      pub searching_blocked : (combining_class t last ≡ 0 → ⊥) → combining_class t c ≤ combining_class t last → Absorbed s₀ c false s
+      searching_blocked n l = stays (p.text ∙ rw (front, absorb_at_block c last earlier n l))
 
       -- the starter, without a composite or with one
-      module _ (z : combiningClass t last ≡ 0) where
-        pub searching-none : none ≡ composite t last c → Absorbed s₀ c false s
+      module _ (z : combining_class t last ≡ 0) where
+        pub searching_none : none ≡ composite t last c → Absorbed s₀ c false s
         unfolding behind
-        searching-none e = stays (p.text ∙ rw (front, absorb-at-starter c last earlier z, ← e))
+        searching_none e = stays (p.text ∙ rw (front, absorb_at_starter c last earlier z, ← e))
 
-        pub searching-some : (q : ℕ) → some q ≡ composite t last c → Absorbed s₀ c true (set s (i - 1) q)
+        pub searching_some : (q : ℕ) → some q ≡ composite t last c → Absorbed s₀ c true (set s (i - 1) q)
         unfolding behind
-        searching-some q e = (
-          sym (p.text ∙ rw (front, absorb-at-starter c last earlier z, ← e) (ap some (sym replaced))),
-          λ w. absurd (true-not-false refl w),
+        searching_some q e = (
+          sym (p.text ∙ rw (front, absorb_at_starter c last earlier z, ← e) (ap some (sym replaced))),
+          λ w. absurd (true_not_false refl w),
         )
           where
             replaced : reversed (set s (i - 1) q) ≡ reversed (drop i s) ++ (q ∷ earlier)
             replaced =
                 let y : suc (i - 1) ≡ i = omega arith in
                 ap reversed (set_split s (i - 1) q (omega (arith, p.within)) ∙ ap (λ (n : ℕ). take (i - 1) s ++ (q ∷ drop n s)) y)
-                ∙ reversed-at (take (i - 1) s) q (drop i s)
+                ∙ reversed_at (take (i - 1) s) q (drop i s)
 
   -- the composition of s₀: s has the n code points that are done, and from i on s₀ is left
   pub record Composing (s₀ s : List ℕ) (n i : ℕ) : Type 0 where
@@ -136,24 +136,24 @@ module _ (t : Table) where
     pub within : i ≤ length s₀
     pub size : length s ≡ length s₀
     pub rest : drop n s ≡ drop n s₀
-    pub text : composeFrom t (reversed (take n s)) (drop i s₀) ≡ composeFrom t [] s₀
+    pub text : compose_from t (reversed (take n s)) (drop i s₀) ≡ compose_from t [] s₀
 
-  pub composing-start : (s : List ℕ) → Composing s s 0 0
+  pub composing_start : (s : List ℕ) → Composing s s 0 0
   unfolding reversed
-  composing-start s = record { below = omega arith; within = omega arith; size = refl; rest = refl; text = refl }
+  composing_start s = record { below = omega arith; within = omega arith; size = refl; rest = refl; text = refl }
 
   module _ {s₀ s : List ℕ} {n i : ℕ} (p : Composing s₀ s n i) where
     room : n ≤ length s
     room = omega (arith, p.below, p.within, p.size)
 
-    pub composing-end : length s₀ ≤ i → (n ≡ length (compose t s₀)) × (s ≡ compose t s₀ ++ drop n s₀)
+    pub composing_end : length s₀ ≤ i → (n ≡ length (compose t s₀)) × (s ≡ compose t s₀ ++ drop n s₀)
     unfolding compose
-    composing-end h = (sym (ap length whole ∙ length-take-le n s room), sym (take-append-drop n s) ∙ rw (← whole, p.rest))
+    composing_end h = (sym (ap length whole ∙ length-take-le n s room), sym (take-append-drop n s) ∙ rw (← whole, p.rest))
       where
-        whole : reversed (composeFrom t [] s₀) ≡ take n s
+        whole : reversed (compose_from t [] s₀) ≡ take n s
         whole =
-            ap reversed (sym p.text ∙ ap (composeFrom t (reversed (take n s))) (drop_of_length-le s₀ h) ∙ compose-nil t (reversed (take n s)))
-            ∙ reversed-reversed (take n s)
+            ap reversed (sym p.text ∙ ap (compose_from t (reversed (take n s))) (drop_of_length-le s₀ h) ∙ compose_nil t (reversed (take n s)))
+            ∙ reversed_reversed (take n s)
 
     module _ (h : i < length s₀) where
       -- the code point that is read is the next of s₀
@@ -177,12 +177,12 @@ module _ (t : Table) where
         whole : length (u ++ drop m s) ≡ length s₀
         whole = simp (length-append, length-drop) (omega (arith, p.size, room, done))
 
-        pub composing-room : n < length (u ++ drop m s)
-        composing-room = omega (arith, p.below, whole)
+        pub composing_room : n < length (u ++ drop m s)
+        composing_room = omega (arith, p.below, whole)
 
         -- it was absorbed
-        pub composing-absorbed : r ≡ true → Composing s₀ (u ++ drop m s) n (i + 1)
-        composing-absorbed e =
+        pub composing_absorbed : r ≡ true → Composing s₀ (u ++ drop m s) n (i + 1)
+        composing_absorbed e =
             let joined : absorb t c (reversed (take n s)) ≡ some (reversed u) = sym (rw (e, z) at a.0) in
             record {
               below = omega (arith, p.below);
@@ -190,13 +190,13 @@ module _ (t : Table) where
               size = whole;
               rest = rw (z, drop_at u (drop n s) n done) p.rest;
               text =
-                  rw (z, take_at u (drop n s) n done, ← compose-absorbed t c (reversed (take n s)) (reversed u) (drop (i + 1) s₀) joined, ← next)
+                  rw (z, take_at u (drop n s) n done, ← compose_absorbed t c (reversed (take n s)) (reversed u) (drop (i + 1) s₀) joined, ← next)
                   p.text;
             }
 
         -- it stays
-        pub composing-kept : r ≡ false → Composing s₀ (set (u ++ drop m s) n c) (n + 1) (i + 1)
-        composing-kept e =
+        pub composing_kept : r ≡ false → Composing s₀ (set (u ++ drop m s) n c) (n + 1) (i + 1)
+        composing_kept e =
             let same : u ++ drop m s ≡ s = rw (a.1 e) (take-append-drop m s) in
             let alone : absorb t c (reversed (take n s)) ≡ none = sym (rw (e, z) at a.0) in
             let longer : take (n + 1) (set s n c) ≡ take n s ++ (c ∷ []) = rw (add-one n) (take-suc-set s n c (omega (arith, p.below, p.size))) in
@@ -206,6 +206,6 @@ module _ (t : Table) where
               size = length-set (u ++ drop m s) n c ∙ whole;
               rest = rw (same, drop-set-lt (n + 1) s n c (omega arith), ← drop-drop 1 n s, ← drop-drop 1 n s₀, p.rest);
               text =
-                  rw (same, longer, reversed-snoc (take n s) c, ← compose-kept t c (reversed (take n s)) (drop (i + 1) s₀) alone, ← next)
+                  rw (same, longer, reversed_snoc (take n s) c, ← compose_kept t c (reversed (take n s)) (drop (i + 1) s₀) alone, ← next)
                   p.text;
             }

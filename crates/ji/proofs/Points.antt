@@ -7,68 +7,68 @@ use lib.ListN.{length, drop, get_or}
 use Rattle.ucd.specs.Unicode16.{unicode16}
 use Rattle.ji.specs.Written.{Written}
 use Rattle.ji.specs.Utf8.{decode}
-use Rattle.ji.specs.Reply.{Reply, refusalNumber, answered, Checked, good, bad, checkPoints}
-use Rattle.ji.specs.Reading.{pointsReply, pointsOf, pointsCall}
+use Rattle.ji.specs.Reply.{Reply, refusal_number, answered, Checked, good, bad, check_points}
+use Rattle.ji.specs.Reading.{points_reply, points_of, points_call}
 use Rattle.ji.specs.declared.reply.Refusal.{Refusal}
 use Rattle.ji.specs.declared.reply.Refusal.TheVariants.{Argument, TooLong, IllFormed, OutsideTable, Parts, Position, NoRoom}
 use Rattle.ji.specs.declared.unicode.CharLen.{CharLen}
 use Rattle.ji.specs.declared.unicode.Decoded.{Decoded}
 use Rattle.ji.specs.declared.unicode.Decoded.TheVariants.{Points, Refused}
-use Rattle.ji.proofs.Replies.{refusal-some, placed-whole}
+use Rattle.ji.proofs.Replies.{refusal_some, placed_whole}
 use Rattle.ji.proofs.unicode.Bytes.{fewer}
-use Rattle.ji.proofs.unicode.Checked.{points-passed}
+use Rattle.ji.proofs.unicode.Checked.{points_passed}
 
 -- a refusal's number says which it is
-refusal-at : ℕ → Refusal
-refusal-at n = get_or (Argument ∷ Argument ∷ TooLong ∷ IllFormed ∷ OutsideTable ∷ Parts ∷ Position ∷ NoRoom ∷ []) n Argument
+refusal_at : ℕ → Refusal
+refusal_at n = get_or (Argument ∷ Argument ∷ TooLong ∷ IllFormed ∷ OutsideTable ∷ Parts ∷ Position ∷ NoRoom ∷ []) n Argument
 
-refusal-back : (why : Refusal) → refusal-at (refusalNumber why) ≡ why
-unfolding refusal-at
-refusal-back Argument = refl
-refusal-back TooLong = refl
-refusal-back IllFormed = refl
-refusal-back OutsideTable = refl
-refusal-back Parts = refl
-refusal-back Position = refl
-refusal-back NoRoom = refl
+refusal_back : (why : Refusal) → refusal_at (refusal_number why) ≡ why
+unfolding refusal_at
+refusal_back Argument = refl
+refusal_back TooLong = refl
+refusal_back IllFormed = refl
+refusal_back OutsideTable = refl
+refusal_back Parts = refl
+refusal_back Position = refl
+refusal_back NoRoom = refl
 
 module _ (s before after : List ℕ) (room : length s ≤ length before) where
   -- where the text is good, there is room
-  good-called : (u : List ℕ) → checkPoints unicode16 (decode s) ≡ good u → pointsCall unicode16 s before ≡ answered 0 u before
-  good-called u e =
-      ap (λ (k : Checked). pointsOf k before) e
-      ∙ sym (placed-whole 0 u before (omega (arith, room, fewer u, ap length (points-passed s u e).written)))
+  good_called : (u : List ℕ) → check_points unicode16 (decode s) ≡ good u → points_call unicode16 s before ≡ answered 0 u before
+  good_called u e =
+      ap (λ (k : Checked). points_of k before) e
+      ∙ sym (placed_whole 0 u before (omega (arith, room, fewer u, ap length (points_passed s u e).written)))
 
-  module _ {answer : Decoded} (says : pointsReply answer after ≡ pointsCall unicode16 s before) where
-    replied : {x : Decoded} → answer ≡ x → {r : Reply} → pointsCall unicode16 s before ≡ r → pointsReply x after ≡ r
-    replied e {r} f = ap (λ (x : Decoded). pointsReply x after) (sym e) ∙ says ∙ f
+  module _ {answer : Decoded} (says : points_reply answer after ≡ points_call unicode16 s before) where
+    replied : {x : Decoded} → answer ≡ x → {r : Reply} → points_call unicode16 s before ≡ r → points_reply x after ≡ r
+    replied e {r} f = ap (λ (x : Decoded). points_reply x after) (sym e) ∙ says ∙ f
 
-    pub points-done : (n : CharLen) → answer ≡ Points n → (u : List ℕ) × (checkPoints unicode16 (decode s) ≡ good u) × Written before after n.0 u
-    points-done n e = go (checkPoints unicode16 (decode s)) refl
+    pub points_done : (n : CharLen) → answer ≡ Points n → (u : List ℕ) × (check_points unicode16 (decode s) ≡ good u) × Written before after n.0 u
+    points_done n e = go (check_points unicode16 (decode s)) refl
       where
-        go : (k : Checked) → checkPoints unicode16 (decode s) ≡ k → (u : List ℕ) × (checkPoints unicode16 (decode s) ≡ good u) × Written before after n.0 u
+        go : (k : Checked) → check_points unicode16 (decode s) ≡ k → (u : List ℕ) × (check_points unicode16 (decode s) ≡ good u) × Written before after n.0 u
         go (good u) f =
-            let same : pointsReply (Points n) after ≡ answered 0 u before = replied e (good-called u f) in
+            let same : points_reply (Points n) after ≡ answered 0 u before = replied e (good_called u f) in
             let size : n.0 ≡ length u = ap (λ (r : Reply). r.length) same in (
               u,
               f,
               record {
                 is = ap (λ (r : Reply). r.buffer) same ∙ ap (λ (k : ℕ). u ++ drop k before) (sym size);
                 size = sym size;
-                fits = omega (arith, size, room, fewer u, ap length (points-passed s u f).written);
+                fits = omega (arith, size, room, fewer u, ap length (points_passed s u f).written);
               },
             )
         go (bad why) f =
-            let none : 0 ≡ refusalNumber why = ap (λ (r : Reply). r.code) (replied e (ap (λ (k : Checked). pointsOf k before) f)) in
-            absurd (let z : ⊥ = omega (arith, none, refusal-some why) in z)
+            let none : 0 ≡ refusal_number why = ap (λ (r : Reply). r.code) (replied e (ap (λ (k : Checked). points_of k before) f)) in
+            absurd (let z : ⊥ = omega (arith, none, refusal_some why) in z)
 
-    pub points-refused : (why : Refusal) → answer ≡ Refused why → checkPoints unicode16 (decode s) ≡ bad why
-    points-refused why e = go (checkPoints unicode16 (decode s)) refl
+    pub points_refused : (why : Refusal) → answer ≡ Refused why → check_points unicode16 (decode s) ≡ bad why
+    points_refused why e = go (check_points unicode16 (decode s)) refl
       where
-        go : (k : Checked) → checkPoints unicode16 (decode s) ≡ k → checkPoints unicode16 (decode s) ≡ bad why
+        go : (k : Checked) → check_points unicode16 (decode s) ≡ k → check_points unicode16 (decode s) ≡ bad why
         go (good u) f =
-            let none : refusalNumber why ≡ 0 = ap (λ (r : Reply). r.code) (replied e (good-called u f)) in
-            absurd (let z : ⊥ = omega (arith, none, refusal-some why) in z)
+            let none : refusal_number why ≡ 0 = ap (λ (r : Reply). r.code) (replied e (good_called u f)) in
+            absurd (let z : ⊥ = omega (arith, none, refusal_some why) in z)
         go (bad other) f =
-            let same : refusalNumber why ≡ refusalNumber other = ap (λ (r : Reply). r.code) (replied e (ap (λ (k : Checked). pointsOf k before) f)) in
-            f ∙ ap bad (sym (refusal-back other) ∙ ap refusal-at (sym same) ∙ refusal-back why)
+            let same : refusal_number why ≡ refusal_number other = ap (λ (r : Reply). r.code) (replied e (ap (λ (k : Checked). points_of k before) f)) in
+            f ∙ ap bad (sym (refusal_back other) ∙ ap refusal_at (sym same) ∙ refusal_back why)

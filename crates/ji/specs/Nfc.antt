@@ -1,12 +1,12 @@
 -- Canonical composition and NFC (the Unicode Standard, 3.11), over any table.
 use Rattle.std.specs.Prelude.{◌≡◌, Bool, true, false, List, [], ◌∷◌, ◌++◌, ℕ, ◌<◌, ltb, eqb}
 use Rattle.std.proofs.Math.Option.{Option, none, some}
-use Rattle.ucd.specs.Table.{Table, All, combiningClass, composite}
+use Rattle.ucd.specs.Table.{Table, All, combining_class, composite}
 use Rattle.ji.specs.Nfd.{nfd}
 
-abbrev pub pickDone : Bool → Option (List ℕ) → Option (List ℕ) → Option (List ℕ)
-pickDone true a b = a
-pickDone false a b = b
+abbrev pub pick_done : Bool → Option (List ℕ) → Option (List ℕ) → Option (List ℕ)
+pick_done true a b = a
+pick_done false a b = b
 
 unfoldable pub behind : Option ℕ → List ℕ → Option (List ℕ)
 behind none r = none
@@ -16,9 +16,9 @@ unfoldable pub under : ℕ → Option (List ℕ) → Option (List ℕ)
 under b none = none
 under b (some r) = some (b ∷ r)
 
-unfoldable pub orKept : ℕ → List ℕ → Option (List ℕ) → List ℕ
-orKept c r none = c ∷ r
-orKept c r (some q) = q
+unfoldable pub or_kept : ℕ → List ℕ → Option (List ℕ) → List ℕ
+or_kept c r none = c ∷ r
+or_kept c r (some q) = q
 
 unfoldable pub reversed : List ℕ → List ℕ
 reversed [] = []
@@ -27,7 +27,7 @@ reversed (c ∷ s) = reversed s ++ (c ∷ [])
 module _ (t : Table) where
   -- D115: what stands between a starter and c does not block c from it: there is no code point of class 0, and none whose class is c's or more
   abbrev pub Unblocked : ℕ → List ℕ → Type 0
-  Unblocked c between = All (λ b. (0 < combiningClass t b) × (combiningClass t b < combiningClass t c)) between
+  Unblocked c between = All (λ b. (0 < combining_class t b) × (combining_class t b < combining_class t c)) between
 
   -- D117, R1 and R2: `starter` is the last starter before c, c is not blocked from it, and the two have a primary composite (D114), which
   -- takes the starter's place while c is deleted. `done` is the text before c and `done'` what it becomes
@@ -37,7 +37,7 @@ module _ (t : Table) where
     pub between : List ℕ
     pub point : ℕ
     pub is : done ≡ before ++ (starter ∷ between)
-    pub class : combiningClass t starter ≡ 0
+    pub class : combining_class t starter ≡ 0
     pub unblocked : Unblocked c between
     pub primary : composite t starter c ≡ some point
     pub becomes : done' ≡ before ++ (point ∷ between)
@@ -54,14 +54,14 @@ module _ (t : Table) where
   absorb c (b ∷ r) =
       let starter : Option (List ℕ) = behind (composite t b c) r in
       let further : Option (List ℕ) = under b (absorb c r) in
-      pickDone (eqb (combiningClass t b) 0) starter (pickDone (ltb (combiningClass t b) (combiningClass t c)) further none)
+      pick_done (eqb (combining_class t b) 0) starter (pick_done (ltb (combining_class t b) (combining_class t c)) further none)
 
-  unfoldable pub composeFrom : List ℕ → List ℕ → List ℕ
-  composeFrom r [] = r
-  composeFrom r (c ∷ s) = composeFrom (orKept c r (absorb c r)) s
+  unfoldable pub compose_from : List ℕ → List ℕ → List ℕ
+  compose_from r [] = r
+  compose_from r (c ∷ s) = compose_from (or_kept c r (absorb c r)) s
 
   unfoldable pub compose : List ℕ → List ℕ
-  compose s = reversed (composeFrom [] s)
+  compose s = reversed (compose_from [] s)
 
   -- D120: NFD, composed
   unfoldable pub nfc : List ℕ → List ℕ

@@ -11,14 +11,14 @@ use Rattle.ji.specs.declared.reply.TextAnswer.{TextAnswer}
 use Rattle.ji.specs.declared.reply.TextAnswer.TheVariants.{Done, Refused}
 
 -- the numbers of the refusals
-abbrev pub refusalNumber : Refusal → ℕ
-refusalNumber Argument = 1
-refusalNumber TooLong = 2
-refusalNumber IllFormed = 3
-refusalNumber OutsideTable = 4
-refusalNumber Parts = 5
-refusalNumber Position = 6
-refusalNumber NoRoom = 7
+abbrev pub refusal_number : Refusal → ℕ
+refusal_number Argument = 1
+refusal_number TooLong = 2
+refusal_number IllFormed = 3
+refusal_number OutsideTable = 4
+refusal_number Parts = 5
+refusal_number Position = 6
+refusal_number NoRoom = 7
 
 -- what a call replies: 0 or the refusal's number, the numbers that it gives, and the bytes of the lent buffer as it leaves them.
 -- A number that a call does not give is 0, and the buffer of a call without one is empty
@@ -35,7 +35,7 @@ pub record Reply : Type 0 where
 -- "Every refusal has length and count 0", and "changes no byte of the caller's buffers" (demand 1)
 abbrev pub refused : Refusal → List ℕ → Reply
 refused why buffer =
-    record { code = refusalNumber why; length = 0; count = 0; body = 0; tone = 0; khin = 0; position = 0; buffer = buffer }
+    record { code = refusal_number why; length = 0; count = 0; body = 0; tone = 0; khin = 0; position = 0; buffer = buffer }
 
 -- "Success leaves bytes behind the output unchanged"
 abbrev pub over : List ℕ → List ℕ → List ℕ
@@ -51,50 +51,50 @@ abbrev pub found : ℕ → ℕ → Reply
 found length position =
     record { code = 0; length = length; count = 0; body = 0; tone = 0; khin = 0; position = position; buffer = [] }
 
-abbrev pub pickReply : Bool → Reply → Reply → Reply
-pickReply true a b = a
-pickReply false a b = b
+abbrev pub pick_reply : Bool → Reply → Reply → Reply
+pick_reply true a b = a
+pick_reply false a b = b
 
 -- "7: the whole output is longer than the lent buffer"
 abbrev pub placed : ℕ → List ℕ → List ℕ → Reply
-placed tone output buffer = pickReply (leb (length output) (length buffer)) (answered tone output buffer) (refused NoRoom buffer)
+placed tone output buffer = pick_reply (leb (length output) (length buffer)) (answered tone output buffer) (refused NoRoom buffer)
 
 -- a text that a writer hands in: its code points, or why it is refused
 pub data Checked : Type 0 where
   good : List ℕ → Checked
   bad : Refusal → Checked
 
-abbrev pub pickChecked : Bool → Checked → Checked → Checked
-pickChecked true a b = a
-pickChecked false a b = b
+abbrev pub pick_checked : Bool → Checked → Checked → Checked
+pick_checked true a b = a
+pick_checked false a b = b
 
 -- "3: ill-formed UTF-8 (Unicode table 3-7)"; "4: well formed, but a code point outside the table"
-abbrev pub checkPoints : Table → Option (List ℕ) → Checked
-checkPoints t none = bad IllFormed
-checkPoints t (some s) = pickChecked (members t s) (good s) (bad OutsideTable)
+abbrev pub check_points : Table → Option (List ℕ) → Checked
+check_points t none = bad IllFormed
+check_points t (some s) = pick_checked (members t s) (good s) (bad OutsideTable)
 
 -- "2: text above 256 bytes (a dictionary entry: above 1,024)"
-unfoldable pub checkWithin : Table → ℕ → List ℕ → Checked
-checkWithin t limit s = pickChecked (leb (length s) limit) (checkPoints t (decode s)) (bad TooLong)
+unfoldable pub check_within : Table → ℕ → List ℕ → Checked
+check_within t limit s = pick_checked (leb (length s) limit) (check_points t (decode s)) (bad TooLong)
 
-unfoldable pub checkText : Table → List ℕ → Checked
-checkText t s = checkWithin t 256 s
+unfoldable pub check_text : Table → List ℕ → Checked
+check_text t s = check_within t 256 s
 
 -- whether it is good, as the code has it
-abbrev pub verdictOf : Checked → Verdict
-verdictOf (good s) = Verdict.Good
-verdictOf (bad why) = Verdict.Refused why
+abbrev pub verdict_of : Checked → Verdict
+verdict_of (good s) = Verdict.Good
+verdict_of (bad why) = Verdict.Refused why
 
 -- ── a call that gives one text
 -- its reply to a text that was checked, and to the bytes of a text; f is what the call makes of its code points
-abbrev pub textOf : (List ℕ → List ℕ) → Checked → List ℕ → Reply
-textOf f (good s) buffer = placed 0 (encode (f s)) buffer
-textOf f (bad why) buffer = refused why buffer
+abbrev pub text_of : (List ℕ → List ℕ) → Checked → List ℕ → Reply
+text_of f (good s) buffer = placed 0 (encode (f s)) buffer
+text_of f (bad why) buffer = refused why buffer
 
-unfoldable pub textCall : Table → (List ℕ → List ℕ) → List ℕ → List ℕ → Reply
-textCall t f text buffer = textOf f (checkText t text) buffer
+unfoldable pub text_call : Table → (List ℕ → List ℕ) → List ℕ → List ℕ → Reply
+text_call t f text buffer = text_of f (check_text t text) buffer
 
 -- the code's answer, and what it leaves in the buffer, as a reply
-abbrev pub textReply : TextAnswer → List ℕ → Reply
-textReply (Done n) buffer = record { code = 0; length = n.0; count = 0; body = 0; tone = 0; khin = 0; position = 0; buffer = buffer }
-textReply (Refused why) buffer = refused why buffer
+abbrev pub text_reply : TextAnswer → List ℕ → Reply
+text_reply (Done n) buffer = record { code = 0; length = n.0; count = 0; body = 0; tone = 0; khin = 0; position = 0; buffer = buffer }
+text_reply (Refused why) buffer = refused why buffer

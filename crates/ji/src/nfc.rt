@@ -3,9 +3,9 @@ ghost use Rattle.std.specs.Prelude.{◌≡◌, true, false, ◌++◌, ◌≤◌,
 ghost use Rattle.std.proofs.Math.Option.{none, some};
 ghost use Rattle.ucd.specs.Unicode16.{unicode16};
 ghost use Rattle.ji.specs.Utf8.{encode};
-ghost use Rattle.ji.specs.Reply.{placed, textCall, textReply};
-ghost use Rattle.ji.specs.Normalising.{exchanged, exchangedCall};
-ghost use Rattle.ji.specs.Nfc.{pickDone, reversed, absorb, compose, nfc};
+ghost use Rattle.ji.specs.Reply.{placed, text_call, text_reply};
+ghost use Rattle.ji.specs.Normalising.{exchanged, exchanged_call};
+ghost use Rattle.ji.specs.Nfc.{pick_done, reversed, absorb, compose, nfc};
 
 use crate::reply::{Refusal, TextAnswer};
 use crate::text::replace_pair;
@@ -15,7 +15,7 @@ use crate::{nfd, reply, unicode};
 // R1 and R2: c and the last starter of s give way to their composite, in the starter's place, unless c is blocked from it or they have none.
 // Says whether they did. What stands below U+0300 ends no composite.
 fn absorb(s: &mut [u16], c: u16) -> bool
-    ensures { (pickDone result (some (reversed s.new)) none ≡ absorb unicode16 c (reversed s.old))
+    ensures { (pick_done result (some (reversed s.new)) none ≡ absorb unicode16 c (reversed s.old))
         × (result ≡ false → s.new ≡ s.old) }
 {
     if c < 0x0300 {
@@ -67,7 +67,7 @@ pub(crate) fn compose(s: &mut [u16]) -> usize
 // NFC of the code points `s`, made in `work`, with each `a` `b` in it exchanged, in `out`.
 fn place_in(s: &[u16], a: u16, b: u16, work: &mut [u16], out: &mut [u8]) -> TextAnswer
     requires { 3 * length s.now ≤ length work.old }
-    ensures { textReply result out.new ≡ placed 0 (encode (exchanged a b (nfc unicode16 s.now))) out.old }
+    ensures { text_reply result out.new ≡ placed 0 (encode (exchanged a b (nfc unicode16 s.now))) out.old }
 {
     let n = unicode::decompose(s, work);
     nfd::order(&mut work[0..n]);
@@ -78,7 +78,7 @@ fn place_in(s: &[u16], a: u16, b: u16, work: &mut [u16], out: &mut [u8]) -> Text
 
 // NFC of the code points `s`, with each `a` `b` in it exchanged, in `out`. Short texts are normalised in a small buffer, since clearing it is quicker.
 pub fn place_exchanged(s: &[u16], a: u16, b: u16, out: &mut [u8]) -> TextAnswer
-    ensures { textReply result out.new ≡ exchangedCall unicode16 a b s.now out.old }
+    ensures { text_reply result out.new ≡ exchanged_call unicode16 a b s.now out.old }
 {
     if s.len() <= 24 {
         let mut work = [0u16; 72];
@@ -93,7 +93,7 @@ pub fn place_exchanged(s: &[u16], a: u16, b: u16, out: &mut [u8]) -> TextAnswer
 
 // Composes `s`, which is in NFD, and writes it to `out`.
 fn place_composed(s: &mut [u16], out: &mut [u8]) -> TextAnswer
-    ensures { textReply result out.new ≡ placed 0 (encode (compose unicode16 s.old)) out.old }
+    ensures { text_reply result out.new ≡ placed 0 (encode (compose unicode16 s.old)) out.old }
 {
     let n = compose(s);
     reply::place(&s[0..n], out)
@@ -101,7 +101,7 @@ fn place_composed(s: &mut [u16], out: &mut [u8]) -> TextAnswer
 
 // NFC of `text`, in `out`.
 pub fn to_nfc(text: &[u8], out: &mut [u8]) -> TextAnswer
-    ensures { textReply result out.new ≡ textCall unicode16 (nfc unicode16) text.now out.old }
+    ensures { text_reply result out.new ≡ text_call unicode16 (nfc unicode16) text.now out.old }
 {
     let mut points = [0u16; 384];
     match nfd::read_nfd(text, &mut points) {

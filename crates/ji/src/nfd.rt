@@ -1,8 +1,8 @@
 // Canonical order (the Unicode Standard, 3.11, D108 and D109), of code points in their buffer, and NFD (D118).
 ghost use Rattle.std.specs.Prelude.{◌≡◌, true, false, ◌++◌, ◌+◌, ◌*◌, ◌<◌, ◌≤◌, length, take, drop, get_or};
-ghost use Rattle.ucd.specs.Table.{combiningClass};
+ghost use Rattle.ucd.specs.Table.{combining_class};
 ghost use Rattle.ucd.specs.Unicode16.{unicode16};
-ghost use Rattle.ji.specs.Reply.{textCall, textReply};
+ghost use Rattle.ji.specs.Reply.{text_call, text_reply};
 ghost use Rattle.ji.specs.Reading.{NfdReading};
 ghost use Rattle.ji.specs.Nfd.{Ordered, insert, order, nfd};
 
@@ -12,7 +12,7 @@ use crate::{reply, unicode};
 
 // The combining class of c. What stands below U+0300 is a starter, and most texts hold little else: it needs no lookup.
 pub(crate) fn class_of(c: u16) -> u8
-    ensures { result ≡ combiningClass unicode16 c }
+    ensures { result ≡ combining_class unicode16 c }
 {
     if c < 0x0300 {
         return 0;
@@ -109,7 +109,7 @@ pub(crate) fn read_nfd(text: &[u8], points: &mut [u16]) -> Decoded
 
 // NFD of `text`, in `out`.
 pub fn to_nfd(text: &[u8], out: &mut [u8]) -> TextAnswer
-    ensures { textReply result out.new ≡ textCall unicode16 (nfd unicode16) text.now out.old }
+    ensures { text_reply result out.new ≡ text_call unicode16 (nfd unicode16) text.now out.old }
 {
     let mut points = [0u16; 384];
     match read_nfd(text, &mut points) {

@@ -1,8 +1,8 @@
 // What calls answer: refusals with their numbers, and texts.
 ghost use Rattle.std.specs.Prelude.{◌≡◌, ◌++◌, ◌+◌, ◌≤◌, ◌<◌, length};
-ghost use Rattle.ji.specs.Utf8.{bytesOf, encode};
+ghost use Rattle.ji.specs.Utf8.{bytes_of, encode};
 ghost use Rattle.ji.specs.Written.{Written, Covers};
-ghost use Rattle.ji.specs.Reply.{refusalNumber, placed, textReply};
+ghost use Rattle.ji.specs.Reply.{refusal_number, placed, text_reply};
 
 use crate::unicode::ByteLen;
 use crate::utf8;
@@ -21,7 +21,7 @@ pub enum Refusal {
 
 // The number of a refusal.
 pub fn number(why: Refusal) -> u64
-    ensures { result ≡ refusalNumber why }
+    ensures { result ≡ refusal_number why }
 {
     match why {
         Refusal::Argument => 1,
@@ -43,7 +43,7 @@ pub enum TextAnswer {
 
 // Writes the text `s` to `out`, if there is room for all of it. A code point has three bytes at most, so that most buffers need no counting.
 pub fn place(s: &[u16], out: &mut [u8]) -> TextAnswer
-    ensures { textReply result out.new ≡ placed 0 (encode s.now) out.old }
+    ensures { text_reply result out.new ≡ placed 0 (encode s.now) out.old }
 {
     if s.len() <= out.len() / 3 {
         return TextAnswer::Done(utf8::encode(s, out));
@@ -112,7 +112,7 @@ pub(crate) fn copy(s: &[u8], out: &mut [u8])
 
 // Writes the bytes `s` of a text to `out`, if there is room for all of them.
 pub fn place_bytes(s: &[u8], out: &mut [u8]) -> TextAnswer
-    ensures { textReply result out.new ≡ placed 0 s.now out.old }
+    ensures { text_reply result out.new ≡ placed 0 s.now out.old }
 {
     if out.len() < s.len() {
         return TextAnswer::Refused(Refusal::NoRoom);
@@ -123,7 +123,7 @@ pub fn place_bytes(s: &[u8], out: &mut [u8]) -> TextAnswer
 
 // Writes the bytes `before`, the code point `x` and the bytes `after` to `out`, if there is room for all of them.
 pub fn place_between(before: &[u8], x: u16, after: &[u8], out: &mut [u8]) -> TextAnswer
-    ensures { textReply result out.new ≡ placed 0 (before.now ++ (bytesOf x ++ after.now)) out.old }
+    ensures { text_reply result out.new ≡ placed 0 (before.now ++ (bytes_of x ++ after.now)) out.old }
 {
     let size = utf8::byte_count(x);
     if out.len() < before.len() {

@@ -1,11 +1,11 @@
 // Texts of code points: letters in lower case, whether a text begins with a pattern, and replacing in place.
 ghost use Rattle.std.specs.Prelude.{◌≡◌, [], ◌∷◌, ◌+◌, ◌≤◌, ◌<◌, leb, length, drop};
 ghost use Rattle.std.proofs.Math.Seq.{paste};
-ghost use Rattle.ji.specs.Text.{lower as lowerOf, begins, replaceAll};
+ghost use Rattle.ji.specs.Text.{lower as lower_of, begins, replace_all};
 
 // An ASCII letter in lower case, and any other code point as it is.
 pub fn lower(x: u16) -> u16
-    ensures { result ≡ lowerOf x }
+    ensures { result ≡ lower_of x }
 {
     if x < 0x41 {
         return x;
@@ -18,7 +18,7 @@ pub fn lower(x: u16) -> u16
 
 // The same of a byte.
 pub fn lower_byte(x: u8) -> u8
-    ensures { result ≡ lowerOf x }
+    ensures { result ≡ lower_of x }
 {
     if x < 0x41 {
         return x;
@@ -63,7 +63,7 @@ pub(crate) fn put(src: &[u16], out: &mut [u16], at: usize) -> usize
 // Replaces each occurrence of `pattern` by `by`, which is as long, so that the rest of the text stays where it is.
 pub(crate) fn replace_same(s: &mut [u16], pattern: &[u16], by: &[u16])
     requires { (0 < length pattern.now) × (length by.now ≡ length pattern.now) }
-    ensures { s.new ≡ replaceAll pattern.now by.now s.old }
+    ensures { s.new ≡ replace_all pattern.now by.now s.old }
 {
     let mut i: usize = 0;
     while i < s.len() {
@@ -77,7 +77,7 @@ pub(crate) fn replace_same(s: &mut [u16], pattern: &[u16], by: &[u16])
 
 // Replaces each `a` `b` by `c` `d`.
 pub fn replace_pair(s: &mut [u16], a: u16, b: u16, c: u16, d: u16)
-    ensures { s.new ≡ replaceAll (a ∷ b ∷ []) (c ∷ d ∷ []) s.old }
+    ensures { s.new ≡ replace_all (a ∷ b ∷ []) (c ∷ d ∷ []) s.old }
 {
     let pattern = [a, b];
     let by = [c, d];

@@ -1,6 +1,6 @@
 // The tones of a syllable.
 ghost use Rattle.std.specs.Prelude.{◌≡◌, ◌≤◌};
-ghost use Rattle.ji.specs.Tone.{toneNumber, isTone};
+ghost use Rattle.ji.specs.Tone.{tone_number, is_tone};
 
 #[derive(Clone, Copy)]
 pub enum Tone {
@@ -18,7 +18,7 @@ pub enum Tone {
 
 // Whether it is a tone, and not None.
 pub fn is_tone(tone: Tone) -> bool
-    ensures { result ≡ isTone tone }
+    ensures { result ≡ is_tone tone }
 {
     match tone {
         Tone::None => false,
@@ -36,7 +36,7 @@ pub fn is_tone(tone: Tone) -> bool
 
 // A tone as a number, 0 to 9.
 pub fn number(tone: Tone) -> usize
-    ensures { (result ≡ toneNumber tone) × (result ≤ 9) }
+    ensures { (result ≡ tone_number tone) × (result ≤ 9) }
 {
     match tone {
         Tone::None => 0,

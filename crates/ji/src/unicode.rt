@@ -4,13 +4,13 @@ ghost use Rattle.std.specs.Prelude.{◌≡◌, [], ◌∷◌, ◌++◌, ℕ, ◌
 ghost use Rattle.std.proofs.Math.Seq.{paste};
 ghost use Rattle.ucd.specs.Table.{decomposition};
 ghost use Rattle.ucd.specs.Unicode16.{unicode16};
-ghost use Rattle.ji.specs.Unicode.{toByteLen, spread, accepted};
+ghost use Rattle.ji.specs.Unicode.{to_byte_len, spread, accepted};
 ghost use Rattle.ucd.specs.Full.{full};
-ghost use Rattle.ji.specs.Text.{allAscii};
-ghost use Rattle.ji.specs.Utf8.{decode, lastStart, lastPoint};
+ghost use Rattle.ji.specs.Text.{all_ascii};
+ghost use Rattle.ji.specs.Utf8.{decode, last_start, last_point};
 ghost use Rattle.ji.specs.Written.{Written};
-ghost use Rattle.ji.specs.Reply.{placed, checkPoints, checkWithin, verdictOf};
-ghost use Rattle.ji.specs.Reading.{spreadText, faultIn, Reading, Counting, pointsReply, pointsCall};
+ghost use Rattle.ji.specs.Reply.{placed, check_points, check_within, verdict_of};
+ghost use Rattle.ji.specs.Reading.{spread_text, fault_in, Reading, Counting, points_reply, points_call};
 
 use crate::reply::Refusal;
 use crate::{text, utf8};
@@ -48,7 +48,7 @@ enum Spread {
 
 // The decomposition of `a`, and `b` behind it.
 fn spread_pair(a: u16, b: u16) -> Spread
-    ensures { spreadText result ≡ decomposition unicode16 a ++ (b ∷ []) }
+    ensures { spread_text result ≡ decomposition unicode16 a ++ (b ∷ []) }
 {
     match ucd::decomposition(a) {
         Mapping::Itself => Spread::Two(a, b),
@@ -59,7 +59,7 @@ fn spread_pair(a: u16, b: u16) -> Spread
 
 // What c becomes. What stands below U+00C0 does not decompose, and most texts hold little else: it needs no lookup.
 fn spread_point(c: u16, decomposed: bool) -> Spread
-    ensures { spreadText result ≡ spread unicode16 decomposed (c ∷ []) }
+    ensures { spread_text result ≡ spread unicode16 decomposed (c ∷ []) }
 {
     if c < 0x00C0 {
         return Spread::One(c);
@@ -77,8 +77,8 @@ fn spread_point(c: u16, decomposed: bool) -> Spread
 
 // Writes these code points at `at`, and returns the place behind them.
 fn put(points: Spread, out: &mut [u16], at: usize) -> usize
-    requires { at + length (spreadText points) ≤ length out.old }
-    ensures { (result ≡ at + length (spreadText points)) × (out.new ≡ paste out.old at (spreadText points) (length (spreadText points))) }
+    requires { at + length (spread_text points) ≤ length out.old }
+    ensures { (result ≡ at + length (spread_text points)) × (out.new ≡ paste out.old at (spread_text points) (length (spread_text points))) }
 {
     match points {
         Spread::One(a) => {
@@ -102,7 +102,7 @@ fn put(points: Spread, out: &mut [u16], at: usize) -> usize
 // Why a text is refused that has a code point outside the table at `at`: the rest decides whether it is well formed.
 fn fault_at(s: &[u8], at: usize) -> Refusal
     requires { at ≤ length s.now }
-    ensures { result ≡ faultIn (decode (drop at s.now)) }
+    ensures { result ≡ fault_in (decode (drop at s.now)) }
 {
     if utf8::well_formed(s, at) {
         return Refusal::OutsideTable;
@@ -142,7 +142,7 @@ pub(crate) fn decode(s: &[u8], decomposed: bool, out: &mut [u16]) -> Decoded
 
 // Whether all bytes of `s` are ASCII. What is made of such a text needs no table.
 pub fn is_ascii(s: &[u8]) -> bool
-    ensures { result ≡ allAscii s.now }
+    ensures { result ≡ all_ascii s.now }
 {
     let mut i: usize = 0;
     while i < s.len() {
@@ -208,7 +208,7 @@ fn count_points(s: &[u8]) -> Decoded
 
 // Writes the code points `s` to `out`, if there is room for all of them.
 fn place_points(s: &[u16], out: &mut [u16]) -> Decoded
-    ensures { pointsReply result out.new ≡ placed 0 s.now out.old }
+    ensures { points_reply result out.new ≡ placed 0 s.now out.old }
 {
     if out.len() < s.len() {
         return Decoded::Refused(Refusal::NoRoom);
@@ -219,7 +219,7 @@ fn place_points(s: &[u16], out: &mut [u16]) -> Decoded
 // The code points of a short text, read into a buffer of our own first, so that a refusal writes nothing.
 fn short_points(text: &[u8], out: &mut [u16]) -> Decoded
     requires { length text.now ≤ 16 }
-    ensures { pointsReply result out.new ≡ pointsCall unicode16 text.now out.old }
+    ensures { points_reply result out.new ≡ points_call unicode16 text.now out.old }
 {
     let mut read = [0u16; 24];
     match decode(text, false, &mut read) {
@@ -233,7 +233,7 @@ fn short_points(text: &[u8], out: &mut [u16]) -> Decoded
 
 // The code points of any text, counted first, so that a refusal writes nothing.
 fn long_points(text: &[u8], out: &mut [u16]) -> Decoded
-    ensures { pointsReply result out.new ≡ pointsCall unicode16 text.now out.old }
+    ensures { points_reply result out.new ≡ points_call unicode16 text.now out.old }
 {
     match count_points(text) {
         Decoded::Refused(why) => Decoded::Refused(why),
@@ -248,7 +248,7 @@ fn long_points(text: &[u8], out: &mut [u16]) -> Decoded
 
 // The code points of `text`, as they are, in `out`.
 pub fn points(text: &[u8], out: &mut [u16]) -> Decoded
-    ensures { pointsReply result out.new ≡ pointsCall unicode16 text.now out.old }
+    ensures { points_reply result out.new ≡ points_call unicode16 text.now out.old }
 {
     if is_ascii(text) {
         if out.len() < text.len() {
@@ -264,7 +264,7 @@ pub fn points(text: &[u8], out: &mut [u16]) -> Decoded
 
 // Whether the bytes `s` are a text of the table, or which of the two refusals they get.
 fn check_points(s: &[u8]) -> Verdict
-    ensures { result ≡ verdictOf (checkPoints unicode16 (decode s.now)) }
+    ensures { result ≡ verdict_of (check_points unicode16 (decode s.now)) }
 {
     match count_points(s) {
         Decoded::Refused(why) => Verdict::Refused(why),
@@ -274,7 +274,7 @@ fn check_points(s: &[u8]) -> Verdict
 
 // Whether `text` is a text of the table of at most `limit` bytes.
 pub fn check(text: &[u8], limit: usize) -> Verdict
-    ensures { result ≡ verdictOf (checkWithin unicode16 limit text.now) }
+    ensures { result ≡ verdict_of (check_within unicode16 limit text.now) }
 {
     if limit < text.len() {
         return Verdict::Refused(Refusal::TooLong);
@@ -287,14 +287,14 @@ pub fn check(text: &[u8], limit: usize) -> Verdict
 
 // Where the last sequence of `text` begins, in bytes.
 pub fn last_start(text: &[u8]) -> ByteLen
-    ensures { (result.0 ≡ lastStart text.now) × (result.0 ≤ length text.now) }
+    ensures { (result.0 ≡ last_start text.now) × (result.0 ≤ length text.now) }
 {
     ByteLen(utf8::last_start(text))
 }
 
 // The code point of the last sequence of `text`, and 0 where there is none, or one of more than sixteen bits, which the table has not.
 pub fn last_point(text: &[u8]) -> u16
-    ensures { result ≡ lastPoint text.now }
+    ensures { result ≡ last_point text.now }
 {
     if text.len() == 0 {
         return 0;
@@ -327,7 +327,7 @@ pub(crate) fn decompose(s: &[u16], out: &mut [u16]) -> usize
 // How many bytes the first `chars` code points of `s` take.
 pub(crate) fn to_byte_len(s: &[u16], chars: CharLen) -> ByteLen
     requires { (chars.0 ≤ length s.now) × (length s.now ≤ 65536) }
-    ensures { result.0 ≡ toByteLen s.now chars.0 }
+    ensures { result.0 ≡ to_byte_len s.now chars.0 }
 {
     let n = chars.0;
     utf8::encoded_len(&s[0..n])

@@ -3,7 +3,7 @@ ghost use Rattle.std.specs.Prelude.{◌≡◌, ◌&&◌, ℕ, ◌+◌, ◌-◌, 
 ghost use Rattle.std.proofs.Math.Seq.{paste};
 ghost use Rattle.ji.specs.Written.{Written};
 ghost use Rattle.ji.specs.Text.{within};
-ghost use Rattle.ji.specs.Utf8.{isStart, lastStart, secondLow, secondHigh, ReadOf, decode, isDecoded, bytesOf, encode};
+ghost use Rattle.ji.specs.Utf8.{is_start, last_start, second_low, second_high, ReadOf, decode, is_decoded, bytes_of, encode};
 
 use crate::unicode::ByteLen;
 
@@ -32,7 +32,7 @@ fn in_range(lo: u32, hi: u32, x: u32) -> bool
 
 // Whether `b` may be the second byte behind `a`, in a sequence of three bytes or four.
 fn is_second(a: u32, b: u32) -> bool
-    ensures { result ≡ within (secondLow a) (secondHigh a) b }
+    ensures { result ≡ within (second_low a) (second_high a) b }
 {
     if a == 0xE0 {
         return in_range(0xA0, 0xBF, b);
@@ -51,7 +51,7 @@ fn is_second(a: u32, b: u32) -> bool
 
 // Whether `b` and `c` may follow `a` in a sequence of three bytes.
 fn are_three(a: u32, b: u32, c: u32) -> bool
-    ensures { result ≡ (within (secondLow a) (secondHigh a) b && within 0x80 0xBF c) }
+    ensures { result ≡ (within (second_low a) (second_high a) b && within 0x80 0xBF c) }
 {
     if is_second(a, b) {
         return in_range(0x80, 0xBF, c);
@@ -61,7 +61,7 @@ fn are_three(a: u32, b: u32, c: u32) -> bool
 
 // Whether `b`, `c` and `d` may follow `a` in a sequence of four bytes.
 fn are_four(a: u32, b: u32, c: u32, d: u32) -> bool
-    ensures { result ≡ (within (secondLow a) (secondHigh a) b && (within 0x80 0xBF c && within 0x80 0xBF d)) }
+    ensures { result ≡ (within (second_low a) (second_high a) b && (within 0x80 0xBF c && within 0x80 0xBF d)) }
 {
     if is_second(a, b) {
         if in_range(0x80, 0xBF, c) {
@@ -171,7 +171,7 @@ pub(crate) fn read(s: &[u8], at: usize) -> Sequence
 // Whether all of `s` from `at` on is well formed.
 pub(crate) fn well_formed(s: &[u8], at: usize) -> bool
     requires { at ≤ length s.now }
-    ensures { result ≡ isDecoded (decode (drop at s.now)) }
+    ensures { result ≡ is_decoded (decode (drop at s.now)) }
 {
     let mut i = at;
     while i < s.len() {
@@ -187,8 +187,8 @@ pub(crate) fn well_formed(s: &[u8], at: usize) -> bool
 
 // Writes the bytes of the code point `x` at `at`, and returns the place behind them.
 pub(crate) fn put_point(x: u32, out: &mut [u8], at: usize) -> usize
-    requires { (x ≤ 0xFFFF) × (at + length (bytesOf x) ≤ length out.old) }
-    ensures { (result ≡ at + length (bytesOf x)) × (out.new ≡ paste out.old at (bytesOf x) (length (bytesOf x))) }
+    requires { (x ≤ 0xFFFF) × (at + length (bytes_of x) ≤ length out.old) }
+    ensures { (result ≡ at + length (bytes_of x)) × (out.new ≡ paste out.old at (bytes_of x) (length (bytes_of x))) }
 {
     if x <= 0x7F {
         out[at] = x as u8;
@@ -221,7 +221,7 @@ pub(crate) fn encode(s: &[u16], out: &mut [u8]) -> ByteLen
 
 // How many bytes the code point `x` takes.
 pub(crate) fn byte_count(x: u16) -> usize
-    ensures { (result ≡ length (bytesOf x)) × (result ≤ 3) }
+    ensures { (result ≡ length (bytes_of x)) × (result ≤ 3) }
 {
     if x <= 0x7F {
         return 1;
@@ -266,7 +266,7 @@ pub(crate) fn fits(s: &[u16], room: usize) -> bool
 
 // Whether a byte begins a sequence.
 fn is_start(b: u8) -> bool
-    ensures { result ≡ isStart b }
+    ensures { result ≡ is_start b }
 {
     if b < 0x80 {
         return true;
@@ -276,7 +276,7 @@ fn is_start(b: u8) -> bool
 
 // Where the last sequence of `s` begins.
 pub(crate) fn last_start(s: &[u8]) -> usize
-    ensures { (result ≡ lastStart s.now) × (result ≤ length s.now) × (0 < length s.now → result < length s.now) }
+    ensures { (result ≡ last_start s.now) × (result ≤ length s.now) × (0 < length s.now → result < length s.now) }
 {
     let mut i = s.len();
     while 0 < i {

@@ -1,13 +1,13 @@
 // The telex step: `convert_to_telex`, its text only.
 ghost use Rattle.std.specs.Prelude.{◌≡◌, true, not, ◌||◌, List, [], ◌∷◌, ◌++◌, ℕ, ◌+◌, ◌-◌, ◌*◌, ◌/◌, ◌≤◌, ◌<◌, length, take};
 ghost use Rattle.ji.specs.Unicode.{unicode16, listed};
-ghost use Rattle.ji.specs.Text.{points as pointsOf, allAscii};
-ghost use Rattle.ji.specs.Utf8.{decode, encode, lastStart};
-ghost use Rattle.ji.specs.Reply.{placed, textCall, textReply, good, checkPoints};
-ghost use Rattle.ji.specs.Lomaji.ToneLetter.{toneLetter, isSome};
+ghost use Rattle.ji.specs.Text.{points as points_of, all_ascii};
+ghost use Rattle.ji.specs.Utf8.{decode, encode, last_start};
+ghost use Rattle.ji.specs.Reply.{placed, text_call, text_reply, good, check_points};
+ghost use Rattle.ji.specs.Lomaji.ToneLetter.{tone_letter, is_some};
 ghost use Rattle.khiin.specs.Syllable.{compose};
-ghost use Rattle.khiin.specs.Converter.{keysIn, keyToTone, toneToKey, isSetting, settingsFit, sharedOr, endsInStop, repeatsTone, eLike, grown, isFirst, telexCall};
-ghost use Rattle.khiin.specs.Telex.{editBy, editAt, editOf, composedOf, edited, stepOf, RestIn};
+ghost use Rattle.khiin.specs.Converter.{keys_in, key_to_tone, tone_to_key, is_setting, settings_fit, shared_or, ends_in_stop, repeats_tone, e_like, grown, is_first, telex_call};
+ghost use Rattle.khiin.specs.Telex.{edit_by, edit_at, edit_of, composed_of, edited, step_of, RestIn};
 
 use crate::syllable::compose::compose_points;
 use crate::syllable::marking::answer;
@@ -87,7 +87,7 @@ const SPACE: u16 = b' ' as u16;
 
 // Whether a tone key may be set to `x`.
 fn is_setting(x: u8) -> bool
-    ensures { result ≡ isSetting x }
+    ensures { result ≡ is_setting x }
 {
     if x < 0x21 {
         return false;
@@ -97,7 +97,7 @@ fn is_setting(x: u8) -> bool
 
 // Whether every tone key may be set as it is.
 fn settings_fit(k: ToneKeys) -> bool
-    ensures { result ≡ settingsFit k }
+    ensures { result ≡ settings_fit k }
 {
     if !is_setting(k.t2) {
         return false;
@@ -122,7 +122,7 @@ fn settings_fit(k: ToneKeys) -> bool
 
 // The tone keys: those that are set, or the digits.
 fn keys_in(mode: ToneMode, k: ToneKeys) -> ToneKeys
-    ensures { result ≡ keysIn mode k }
+    ensures { result ≡ keys_in mode k }
 {
     match mode {
         ToneMode::Numeric => ToneKeys {
@@ -140,7 +140,7 @@ fn keys_in(mode: ToneMode, k: ToneKeys) -> ToneKeys
 
 // The tone of a key, None of any other.
 fn key_to_tone(k: ToneKeys, key: u16) -> Tone
-    ensures { result ≡ keyToTone k key }
+    ensures { result ≡ key_to_tone k key }
 {
     if k.t2 as u16 == key {
         return Tone::T2;
@@ -168,7 +168,7 @@ fn key_to_tone(k: ToneKeys, key: u16) -> Tone
 
 // The key of a tone, and a space where it has none.
 fn tone_to_key(k: ToneKeys, tone: Tone) -> u16
-    ensures { result ≡ toneToKey k tone }
+    ensures { result ≡ tone_to_key k tone }
 {
     match tone {
         Tone::None => SPACE,
@@ -186,7 +186,7 @@ fn tone_to_key(k: ToneKeys, tone: Tone) -> u16
 
 // Whether the key of the text's tone is typed again.
 fn repeats_tone(k: ToneKeys, key: u16, tone: Tone) -> bool
-    ensures { result ≡ repeatsTone k key tone }
+    ensures { result ≡ repeats_tone k key tone }
 {
     let before = tone_to_key(k, tone);
     if before == SPACE {
@@ -197,14 +197,14 @@ fn repeats_tone(k: ToneKeys, key: u16, tone: Tone) -> bool
 
 // e, in the case of the key.
 fn e_like(key: u16) -> u16
-    ensures { result ≡ eLike key }
+    ensures { result ≡ e_like key }
 {
     if lower(key) == key { E } else { CAPITAL_E }
 }
 
 // Whether the letter `x`, in lower case, is a stop.
 fn is_stop(x: u16) -> bool
-    ensures { result ≡ listed (pointsOf "ptkh") x }
+    ensures { result ≡ listed (points_of "ptkh") x }
 {
     match x {
         P | T | K | H => true,
@@ -215,7 +215,7 @@ fn is_stop(x: u16) -> bool
 // Whether `body` ends in a stop, whatever stands behind it of ⁿ, ᴺ and nn. `stop` says so of what is passed, and `single` that an n stands
 // behind it which another n would make a sign.
 fn ends_in_stop(body: &[u16]) -> bool
-    ensures { result ≡ endsInStop body.now }
+    ensures { result ≡ ends_in_stop body.now }
 {
     let mut stop = false;
     let mut single = false;
@@ -244,7 +244,7 @@ fn ends_in_stop(body: &[u16]) -> bool
 
 // The tone of a body whose tone has this key: the key of tone 8 may be shared with another tone, and is tone 8's behind a stop.
 fn shared_or(k: ToneKeys, key: u16, tone: Tone, body: &[u16]) -> Tone
-    ensures { result ≡ sharedOr k key tone body.now }
+    ensures { result ≡ shared_or k key tone body.now }
 {
     let eighth = k.t8 as u16;
     if key == eighth {
@@ -258,7 +258,7 @@ fn shared_or(k: ToneKeys, key: u16, tone: Tone, body: &[u16]) -> Tone
 
 // Which branch a text takes, by its end: the last code point, and the last but one in lower case, as the key is.
 fn edit_by(low: u16, before: u16, end: u16) -> Edit
-    ensures { result ≡ editBy low before end }
+    ensures { result ≡ edit_by low before end }
 {
     if low == N {
         if end == SMALL_SIGN {
@@ -301,7 +301,7 @@ fn edit_by(low: u16, before: u16, end: u16) -> Edit
 
 // Which branch the text takes whose bytes `text` are, unless the key repeats its tone. Its last two code points tell.
 fn edit_at(key: u16, text: &[u8]) -> Edit
-    ensures { (given : List ℕ) → checkPoints unicode16 (decode text.now) ≡ good given → result ≡ editAt key given }
+    ensures { (given : List ℕ) → check_points unicode16 (decode text.now) ≡ good given → result ≡ edit_at key given }
 {
     let start = unicode::last_start(text);
     let n = start.0;
@@ -314,7 +314,7 @@ fn edit_at(key: u16, text: &[u8]) -> Edit
 
 // Which branch a text of this tone takes. It is read only for the keys that open one.
 fn edit_of(k: ToneKeys, key: u16, tone: Tone, text: &[u8]) -> Edit
-    ensures { (given : List ℕ) → checkPoints unicode16 (decode text.now) ≡ good given → result ≡ editOf k key tone given }
+    ensures { (given : List ℕ) → check_points unicode16 (decode text.now) ≡ good given → result ≡ edit_of k key tone given }
 {
     if repeats_tone(k, key, tone) {
         return Edit::Behind;
@@ -328,7 +328,7 @@ fn edit_of(k: ToneKeys, key: u16, tone: Tone, text: &[u8]) -> Edit
 // Writes the first `at` bytes of `bytes`, and the key behind them.
 fn place_key(bytes: &mut [u8], at: usize, key: u8, out: &mut [u8]) -> TextAnswer
     requires { at < length bytes.old }
-    ensures { textReply result out.new ≡ placed 0 (take at bytes.old ++ (key ∷ [])) out.old }
+    ensures { text_reply result out.new ≡ placed 0 (take at bytes.old ++ (key ∷ [])) out.old }
 {
     bytes[at] = key;
     let n = at + 1;
@@ -338,7 +338,7 @@ fn place_key(bytes: &mut [u8], at: usize, key: u8, out: &mut [u8]) -> TextAnswer
 // How many bytes the first `n` of `bytes` have without their last code point.
 fn without_last(bytes: &[u8], n: usize) -> usize
     requires { n ≤ length bytes.now }
-    ensures { (result ≡ lastStart (take n bytes.now)) × (result ≤ n) }
+    ensures { (result ≡ last_start (take n bytes.now)) × (result ≤ n) }
 {
     let start = unicode::last_start(&bytes[0..n]);
     start.0
@@ -346,7 +346,7 @@ fn without_last(bytes: &[u8], n: usize) -> usize
 
 // Whether a text of this tone is one that a tone key gives a tone: it has one other than the first, or a tone letter.
 fn takes_tone(tone: Tone, rest: &[u16]) -> bool
-    ensures { result ≡ (not (isFirst tone) || isSome (toneLetter rest.now)) }
+    ensures { result ≡ (not (is_first tone) || is_some (tone_letter rest.now)) }
 {
     if tone::number(tone) != 1 {
         return true;
@@ -364,7 +364,7 @@ struct Body {
 // The body and the tone when a key is typed behind the stripped text, with which `whole` begins; `len` is its length if the key joins it.
 fn typed(k: ToneKeys, key: u16, tone: Tone, whole: &[u16], n: usize, len: usize) -> Body
     requires { (n ≤ length whole.now) × (len ≤ length whole.now) }
-    ensures { (result.len ≤ length whole.now) × (grown key (take n whole.now) ≡ take len whole.now → composedOf unicode16 k key tone (take n whole.now) ≡ compose unicode16 (take n whole.now ++ (key ∷ [])) (take result.len whole.now) result.tone Khin.No) }
+    ensures { (result.len ≤ length whole.now) × (grown key (take n whole.now) ≡ take len whole.now → composed_of unicode16 k key tone (take n whole.now) ≡ compose unicode16 (take n whole.now ++ (key ∷ [])) (take result.len whole.now) result.tone Khin.No) }
 {
     if takes_tone(tone, &whole[0..n]) {
         let low = lower(key);
@@ -408,7 +408,7 @@ fn compose_step(
     out: &mut [u8],
 ) -> TextAnswer
     requires { (n < 400) × (n + 2 < length points.old) × (raw.now ≡ encode (take n points.old ++ (key ∷ []))) }
-    ensures { textReply result out.new ≡ placed 0 (encode (composedOf unicode16 k key tone (take n points.old))) out.old }
+    ensures { text_reply result out.new ≡ placed 0 (encode (composed_of unicode16 k key tone (take n points.old))) out.old }
 {
     points[n] = key;
     let m = n + 1;
@@ -433,7 +433,7 @@ fn compose_in(
     out: &mut [u8],
 ) -> TextAnswer
     requires { (key ≤ 0x7F) × (n < length bytes.old) × (n ≤ length points.old) × (n + 2 < length points.old) × RestIn bytes.old n }
-    ensures { (h : RestIn bytes.old n) → textReply result out.new ≡ placed 0 (encode (composedOf unicode16 k key tone h.rest)) out.old }
+    ensures { (h : RestIn bytes.old n) → text_reply result out.new ≡ placed 0 (encode (composed_of unicode16 k key tone h.rest)) out.old }
 {
     match unicode::points(&bytes[0..n], points) {
         Decoded::Refused(why) => TextAnswer::Refused(why),
@@ -458,7 +458,7 @@ fn finish(
     out: &mut [u8],
 ) -> TextAnswer
     requires { (key ≤ 0x7F) × (n + 1 < length bytes.old) × (n ≤ length points.old) × (n + 2 < length points.old) × RestIn bytes.old n }
-    ensures { (h : RestIn bytes.old n) → textReply result out.new ≡ placed 0 (encode (edited unicode16 k edit key tone h.rest)) out.old }
+    ensures { (h : RestIn bytes.old n) → text_reply result out.new ≡ placed 0 (encode (edited unicode16 k edit key tone h.rest)) out.old }
 {
     match edit {
         Edit::Behind => place_key(bytes, n, key, out),
@@ -478,7 +478,7 @@ fn finish(
 // Copies `text` to the front of `bytes`, as far as it is ASCII, and says whether all of it is.
 fn copy_ascii(text: &[u8], bytes: &mut [u8]) -> bool
     requires { length text.now ≤ length bytes.old }
-    ensures { result ≡ true → (allAscii text.now ≡ true) × (take (length text.now) bytes.new ≡ text.now) }
+    ensures { result ≡ true → (all_ascii text.now ≡ true) × (take (length text.now) bytes.new ≡ text.now) }
 {
     let mut i: usize = 0;
     while i < text.len() {
@@ -503,7 +503,7 @@ fn step_in(
     out: &mut [u8],
 ) -> TextAnswer
     requires { (key ≤ 0x7F) × (length text.now ≤ 256) × (5 * length text.now + 4 ≤ 2 * length bytes.old) × (length bytes.old ≤ length points.old) × (length bytes.old + 1 < length points.old) }
-    ensures { textReply result out.new ≡ textCall unicode16 (stepOf unicode16 k key) text.now out.old }
+    ensures { text_reply result out.new ≡ text_call unicode16 (step_of unicode16 k key) text.now out.old }
 {
     let mut n = text.len();
     let mut tone = Tone::T1;
@@ -530,7 +530,7 @@ fn step_in(
 // the text, and the key takes one more.
 fn step_short(k: ToneKeys, key: u8, text: &[u8], out: &mut [u8]) -> TextAnswer
     requires { (key ≤ 0x7F) × (length text.now ≤ 8) }
-    ensures { textReply result out.new ≡ textCall unicode16 (stepOf unicode16 k key) text.now out.old }
+    ensures { text_reply result out.new ≡ text_call unicode16 (step_of unicode16 k key) text.now out.old }
 {
     let mut bytes = [0u8; 22];
     let mut points = [0u16; 24];
@@ -540,7 +540,7 @@ fn step_short(k: ToneKeys, key: u8, text: &[u8], out: &mut [u8]) -> TextAnswer
 // In buffers for a text of at most 256 bytes.
 fn step_long(k: ToneKeys, key: u8, text: &[u8], out: &mut [u8]) -> TextAnswer
     requires { (key ≤ 0x7F) × (length text.now ≤ 256) }
-    ensures { textReply result out.new ≡ textCall unicode16 (stepOf unicode16 k key) text.now out.old }
+    ensures { text_reply result out.new ≡ text_call unicode16 (step_of unicode16 k key) text.now out.old }
 {
     let mut bytes = [0u8; 642];
     let mut points = [0u16; 644];
@@ -555,7 +555,7 @@ pub fn convert_to_telex(
     keys: ToneKeys,
     out: &mut [u8],
 ) -> TextAnswer
-    ensures { textReply result out.new ≡ telexCall unicode16 mode keys key text.now out.old }
+    ensures { text_reply result out.new ≡ telex_call unicode16 mode keys key text.now out.old }
 {
     if key < 0x20 {
         return TextAnswer::Refused(Refusal::Argument);

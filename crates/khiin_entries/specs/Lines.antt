@@ -1,49 +1,49 @@
 -- How the listing is written: lines from the arrays of an entry, as many as go into the buffer.
 use Rattle.std.specs.Prelude.{◌≡◌, List, [], ◌∷◌, ◌++◌, ℕ, ◌+◌, ◌-◌, ◌≤◌, ◌<◌, length, take, drop}
-use Rattle.ji.specs.Unicode.{unicode16, pickNumber}
+use Rattle.ji.specs.Unicode.{unicode16, pick_number}
 use Rattle.ji.specs.Text.{point}
 use Rattle.ji.specs.Utf8.{bytes}
-use Rattle.ji.specs.Reply.{refusalNumber}
-use Rattle.ji.specs.Lomaji.Dot.{dotIn}
+use Rattle.ji.specs.Reply.{refusal_number}
+use Rattle.ji.specs.Lomaji.Dot.{dot_in}
 use Rattle.ji.specs.declared.reply.Refusal.{Refusal}
 use Rattle.ji.specs.declared.lomaji.keys.Kind.{Kind}
 use Rattle.ji.specs.declared.lomaji.keys.Kind.TheVariants.{Detoned, Numeric, Telex}
 use Rattle.khiin_entries.specs.KeySequence.{split, keyings}
-use Rattle.khiin_entries.specs.Choices.{pointsOf, upTo, keyingIn}
-use Rattle.khiin_entries.specs.Listing.{decimal, spaced, keyingLines, together, fitting, goingIn}
+use Rattle.khiin_entries.specs.Choices.{points_of, up_to, keying_in}
+use Rattle.khiin_entries.specs.Listing.{decimal, spaced, keying_lines, together, fitting, going_in}
 
 -- ── one line
 -- a number and a byte behind it
-unfoldable pub numberThen : ℕ → ℕ → List ℕ
-numberThen n last = decimal n ++ (last ∷ [])
+unfoldable pub number_then : ℕ → ℕ → List ℕ
+number_then n last = decimal n ++ (last ∷ [])
 
 -- the header's line, by its numbers
-unfoldable pub headerLine : ℕ → ℕ → ℕ → ℕ → ℕ → List ℕ
-headerLine parts dots numeric telex detoned = spaced (parts ∷ dots ∷ numeric ∷ telex ∷ detoned ∷ []) ++ bytes "\n"
+unfoldable pub header_line : ℕ → ℕ → ℕ → ℕ → ℕ → List ℕ
+header_line parts dots numeric telex detoned = spaced (parts ∷ dots ∷ numeric ∷ telex ∷ detoned ∷ []) ++ bytes "\n"
 
 -- the line of a refusal
-unfoldable pub refusalLine : Refusal → List ℕ
-refusalLine why = bytes "refused " ++ (decimal (refusalNumber why) ++ bytes "\n")
+unfoldable pub refusal_line : Refusal → List ℕ
+refusal_line why = bytes "refused " ++ (decimal (refusal_number why) ++ bytes "\n")
 
 -- how many of these parts, in bytes, hold 0358
-unfoldable pub dottedIn : List (List ℕ) → ℕ
-dottedIn [] = 0
-dottedIn (w ∷ ws) = pickNumber (dotIn w) 1 0 + dottedIn ws
+unfoldable pub dotted_in : List (List ℕ) → ℕ
+dotted_in [] = 0
+dotted_in (w ∷ ws) = pick_number (dot_in w) 1 0 + dotted_in ws
 
 -- the letter of a kind
-abbrev pub letterOf : Kind → ℕ
-letterOf Numeric = point "N"
-letterOf Telex = point "T"
-letterOf Detoned = point "D"
+abbrev pub letter_of : Kind → ℕ
+letter_of Numeric = point "N"
+letter_of Telex = point "T"
+letter_of Detoned = point "D"
 
 -- the line of the keying at a position: the kind's letter, the position and the keying, with a space between neighbours
-unfoldable pub lineIn : ℕ → List ℕ → List (List ℕ) → List (List ℕ) → List ℕ → ℕ → ℕ → List ℕ
-lineIn letter forms offsets lengths radices parts position =
-    (letter ∷ 0x20 ∷ []) ++ (numberThen position 0x20 ++ (keyingIn forms offsets lengths radices parts position ++ (0x0A ∷ [])))
+unfoldable pub line_in : ℕ → List ℕ → List (List ℕ) → List (List ℕ) → List ℕ → ℕ → ℕ → List ℕ
+line_in letter forms offsets lengths radices parts position =
+    (letter ∷ 0x20 ∷ []) ++ (number_then position 0x20 ++ (keying_in forms offsets lengths radices parts position ++ (0x0A ∷ [])))
 
 -- the lines of a kind
-unfoldable pub linesIn : ℕ → List ℕ → List (List ℕ) → List (List ℕ) → List ℕ → ℕ → ℕ → List (List ℕ)
-linesIn letter forms offsets lengths radices parts count = upTo (lineIn letter forms offsets lengths radices parts) count
+unfoldable pub lines_in : ℕ → List ℕ → List (List ℕ) → List (List ℕ) → List ℕ → ℕ → ℕ → List (List ℕ)
+lines_in letter forms offsets lengths radices parts count = up_to (line_in letter forms offsets lengths radices parts) count
 
 -- ── many lines
 -- `text` stands from `at` on and ends at `end`; before and behind it the buffer is as it was
@@ -53,13 +53,13 @@ pub record Put (before after : List ℕ) (at : ℕ) (text : List ℕ) (end : ℕ
   pub fits : end ≤ length before
 
 -- of these lines, those from number `from` on, as many as go in
-unfoldable pub shownText : List (List ℕ) → ℕ → ℕ → List ℕ
-shownText ls from room = together (goingIn (drop from ls) room)
+unfoldable pub shown_text : List (List ℕ) → ℕ → ℕ → List ℕ
+shown_text ls from room = together (going_in (drop from ls) room)
 
 -- they were written at `at`: `next` is the number of the next line, and `end` the place behind them
 pub record Shown (ls : List (List ℕ)) (from at : ℕ) (before after : List ℕ) (next end : ℕ) : Type 0 where
   pub count : next ≡ from + fitting (drop from ls) (length before - at)
-  pub text : Put before after at (shownText ls from (length before - at)) end
+  pub text : Put before after at (shown_text ls from (length before - at)) end
 
 -- of a longer listing these lines start with number `first`, and the next line to be written is number `next`. Where that is a line before
 -- them, which did not go in, nothing is written
@@ -69,17 +69,17 @@ pub record Following (ls : List (List ℕ)) (first next at : ℕ) (before after 
 
 -- ── a good entry's lines
 -- those of a kind
-unfoldable pub kindLines : Kind → List ℕ → List (List ℕ)
-kindLines kind entry = keyingLines kind 0 (keyings unicode16 kind (pointsOf entry))
+unfoldable pub kind_lines : Kind → List ℕ → List (List ℕ)
+kind_lines kind entry = keying_lines kind 0 (keyings unicode16 kind (points_of entry))
 
 -- the header, which gives these numbers of telex and detoned keyings, and the numeric lines
-unfoldable pub throughNumeric : List ℕ → ℕ → ℕ → ℕ → List (List ℕ)
-throughNumeric entry parts telex detoned =
-    (headerLine parts (dottedIn (split entry)) (length (keyings unicode16 Numeric (pointsOf entry))) telex detoned ∷ []) ++ kindLines Numeric entry
+unfoldable pub through_numeric : List ℕ → ℕ → ℕ → ℕ → List (List ℕ)
+through_numeric entry parts telex detoned =
+    (header_line parts (dotted_in (split entry)) (length (keyings unicode16 Numeric (points_of entry))) telex detoned ∷ []) ++ kind_lines Numeric entry
 
 -- and the telex lines
-unfoldable pub throughTelex : List ℕ → ℕ → ℕ → List (List ℕ)
-throughTelex entry parts detoned = throughNumeric entry parts (length (keyings unicode16 Telex (pointsOf entry))) detoned ++ kindLines Telex entry
+unfoldable pub through_telex : List ℕ → ℕ → ℕ → List (List ℕ)
+through_telex entry parts detoned = through_numeric entry parts (length (keyings unicode16 Telex (points_of entry))) detoned ++ kind_lines Telex entry
 
 -- of these lines those from number `from` on were written, as many as go in, from the buffer's front on; `lines` is how many there are
 pub record Reached (ls : List (List ℕ)) (from : ℕ) (before after : List ℕ) (next end lines : ℕ) : Type 0 where

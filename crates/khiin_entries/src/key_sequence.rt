@@ -2,10 +2,10 @@
 // are; a keying is put together from them by the digits of its position, whose radices are the numbers of choices.
 ghost use Rattle.std.specs.Prelude.{◌≡◌, true, false, ◌&&◌, ℕ, ◌+◌, ◌-◌, ◌*◌, ◌/◌, ◌%◌, ◌≤◌, ◌<◌, eqb, length, drop, get_or};
 ghost use Rattle.std.proofs.Math.Seq.{paste};
-ghost use Rattle.ji.specs.Unicode.{unicode16, same as sameText};
-ghost use Rattle.ji.specs.Reply.{good, checkText};
-ghost use Rattle.khiin_entries.specs.Choices.{pointsOf, formBytes, isToned, firstPart, partCount, rowOne, rowTwo, rowOneToned, rowTwoToned, RowOf, Radix, Laid, Entry, laidOut, choicesIn, countIn, lengthIn, keyingIn, laidReply};
-ghost use Rattle.khiin_entries.specs.KeySequence.{keyingCall, keyingReply};
+ghost use Rattle.ji.specs.Unicode.{unicode16, same as same_text};
+ghost use Rattle.ji.specs.Reply.{good, check_text};
+ghost use Rattle.khiin_entries.specs.Choices.{points_of, form_bytes, is_toned, first_part, part_count, row_one, row_two, row_one_toned, row_two_toned, RowOf, Radix, Laid, Entry, laid_out, choices_in, count_in, length_in, keying_in, laid_reply};
+ghost use Rattle.khiin_entries.specs.KeySequence.{keying_call, keying_reply};
 
 use ji::lomaji::dot::holds_dot;
 use ji::lomaji::keys;
@@ -31,7 +31,7 @@ pub enum Keying {
 // Where the part that starts at `at` ends: at the next space, or at the end of the entry.
 pub(crate) fn part_end(entry: &[u8], at: usize) -> usize
     requires { at ≤ length entry.now }
-    ensures { result ≡ at + length (firstPart (drop at entry.now)) }
+    ensures { result ≡ at + length (first_part (drop at entry.now)) }
 {
     let mut i = at;
     while i < entry.len() {
@@ -46,7 +46,7 @@ pub(crate) fn part_end(entry: &[u8], at: usize) -> usize
 // How many parts an entry has, and 0 where they are more than sixteen or one has more than 256 bytes.
 pub(crate) fn count_parts(entry: &[u8]) -> usize
     requires { length entry.now ≤ 1024 }
-    ensures { result ≡ partCount entry.now }
+    ensures { result ≡ part_count entry.now }
 {
     let mut at: usize = 0;
     let mut n: usize = 0;
@@ -66,8 +66,8 @@ pub(crate) fn count_parts(entry: &[u8]) -> usize
 
 // Writes a form of a part at `at`, and returns the place behind it.
 fn put_form(part: &[u8], form: Form, kind: Kind, forms: &mut [u8], at: usize) -> usize
-    requires { (checkText unicode16 part.now ≡ good (pointsOf part.now)) × (at + length (formBytes unicode16 form kind part.now) ≤ length forms.old) }
-    ensures { (result ≡ at + length (formBytes unicode16 form kind part.now)) × (forms.new ≡ paste forms.old at (formBytes unicode16 form kind part.now) (length (formBytes unicode16 form kind part.now))) }
+    requires { (check_text unicode16 part.now ≡ good (points_of part.now)) × (at + length (form_bytes unicode16 form kind part.now) ≤ length forms.old) }
+    ensures { (result ≡ at + length (form_bytes unicode16 form kind part.now)) × (forms.new ≡ paste forms.old at (form_bytes unicode16 form kind part.now) (length (form_bytes unicode16 form kind part.now))) }
 {
     match keys::keys(part, form, kind, &mut forms[at..]) {
         TextAnswer::Done(len) => at + len.0,
@@ -77,7 +77,7 @@ fn put_form(part: &[u8], form: Form, kind: Kind, forms: &mut [u8], at: usize) ->
 
 // Whether two texts are the same.
 fn same(a: &[u8], b: &[u8]) -> bool
-    ensures { result ≡ sameText a.now b.now }
+    ensures { result ≡ same_text a.now b.now }
 {
     if a.len() != b.len() {
         return false;
@@ -104,7 +104,7 @@ pub(crate) struct Row {
 // One form, as it is.
 fn row_one(at: usize, mid: usize) -> Row
     requires { (at ≤ mid) × (mid ≤ 65535) }
-    ensures { result ≡ rowOne at mid }
+    ensures { result ≡ row_one at mid }
 {
     Row {
         offsets: [at as u16, 0, 0, 0],
@@ -117,7 +117,7 @@ fn row_one(at: usize, mid: usize) -> Row
 // Two forms, as they are.
 fn row_two(at: usize, mid: usize, end: usize) -> Row
     requires { (at ≤ mid) × (mid ≤ end) × (end ≤ 65535) }
-    ensures { result ≡ rowTwo at mid end }
+    ensures { result ≡ row_two at mid end }
 {
     Row {
         offsets: [at as u16, mid as u16, 0, 0],
@@ -130,7 +130,7 @@ fn row_two(at: usize, mid: usize, end: usize) -> Row
 // One form, and the same without its last byte, the key of the tone.
 fn row_one_toned(at: usize, mid: usize) -> Row
     requires { (at < mid) × (mid ≤ 65535) }
-    ensures { result ≡ rowOneToned at mid }
+    ensures { result ≡ row_one_toned at mid }
 {
     Row {
         offsets: [at as u16, at as u16, 0, 0],
@@ -143,7 +143,7 @@ fn row_one_toned(at: usize, mid: usize) -> Row
 // Two forms, and the same without their last bytes.
 fn row_two_toned(at: usize, mid: usize, end: usize) -> Row
     requires { (at < mid) × (mid < end) × (end ≤ 65535) }
-    ensures { result ≡ rowTwoToned at mid end }
+    ensures { result ≡ row_two_toned at mid end }
 {
     Row {
         offsets: [at as u16, mid as u16, at as u16, mid as u16],
@@ -159,7 +159,7 @@ fn row_two_toned(at: usize, mid: usize, end: usize) -> Row
 }
 
 fn is_toned(kind: Kind) -> bool
-    ensures { result ≡ isToned kind }
+    ensures { result ≡ is_toned kind }
 {
     match kind {
         Kind::Detoned => false,
@@ -170,7 +170,7 @@ fn is_toned(kind: Kind) -> bool
 
 // The forms of a part that is the only one.
 fn lay_single(part: &[u8], kind: Kind, forms: &mut [u8], at: usize) -> Row
-    requires { (checkText unicode16 part.now ≡ good (pointsOf part.now)) × (at + (5 * length part.now + 2) ≤ length forms.old) × (length forms.old ≤ 65535) }
+    requires { (check_text unicode16 part.now ≡ good (points_of part.now)) × (at + (5 * length part.now + 2) ≤ length forms.old) × (length forms.old ≤ 65535) }
     ensures { RowOf unicode16 true kind part.now at forms.old forms.new result }
 {
     let mid = put_form(part, Form::Plain, kind, forms, at);
@@ -183,7 +183,7 @@ fn lay_single(part: &[u8], kind: Kind, forms: &mut [u8], at: usize) -> Row
 
 // The forms of a part of several.
 fn lay_part(part: &[u8], kind: Kind, forms: &mut [u8], at: usize) -> Row
-    requires { (checkText unicode16 part.now ≡ good (pointsOf part.now)) × (at + (5 * length part.now + 2) ≤ length forms.old) × (length forms.old ≤ 65535) }
+    requires { (check_text unicode16 part.now ≡ good (points_of part.now)) × (at + (5 * length part.now + 2) ≤ length forms.old) × (length forms.old ≤ 65535) }
     ensures { RowOf unicode16 false kind part.now at forms.old forms.new result }
 {
     let mid = put_form(part, Form::Plain, kind, forms, at);
@@ -201,7 +201,7 @@ fn lay_part(part: &[u8], kind: Kind, forms: &mut [u8], at: usize) -> Row
 }
 
 fn lay_row(part: &[u8], single: bool, kind: Kind, forms: &mut [u8], at: usize) -> Row
-    requires { (checkText unicode16 part.now ≡ good (pointsOf part.now)) × (at + (5 * length part.now + 2) ≤ length forms.old) × (length forms.old ≤ 65535) }
+    requires { (check_text unicode16 part.now ≡ good (points_of part.now)) × (at + (5 * length part.now + 2) ≤ length forms.old) × (length forms.old ≤ 65535) }
     ensures { RowOf unicode16 single kind part.now at forms.old forms.new result }
 {
     if single {
@@ -220,7 +220,7 @@ pub(crate) fn lay_parts(
     forms: &mut [u8],
 ) -> [u8; 16]
     requires { Entry entry.now parts × (length offsets.old ≡ 16) × (length lengths.old ≡ 16) × (5 * length entry.now + 32 ≤ length forms.old) × (length forms.old ≤ 65535) }
-    ensures { (laidOut forms.new offsets.new lengths.new result parts ≡ choicesIn unicode16 kind entry.now) × Laid offsets.new lengths.new result parts (length forms.new) }
+    ensures { (laid_out forms.new offsets.new lengths.new result parts ≡ choices_in unicode16 kind entry.now) × Laid offsets.new lengths.new result parts (length forms.new) }
 {
     let single = parts == 1;
     let mut radices = [0u8; 16];
@@ -275,7 +275,7 @@ fn digit_of(position: u64, radix: u8) -> Digit
 // How many keyings there are.
 pub(crate) fn count_of(radices: &[u8; 16], parts: usize) -> u64
     requires { (parts ≤ 16) × ((i : ℕ) → i < parts → Radix (get_or radices.now i 0)) }
-    ensures { result ≡ countIn radices.now parts }
+    ensures { result ≡ count_in radices.now parts }
 {
     let mut i: usize = 0;
     let mut count: u64 = 1;
@@ -300,7 +300,7 @@ pub(crate) fn length_at(
     position: u64,
 ) -> usize
     requires { (parts ≤ 16) × ((i : ℕ) → i < parts → Radix (get_or radices.now i 0)) }
-    ensures { result ≡ lengthIn lengths.now radices.now parts position }
+    ensures { result ≡ length_in lengths.now radices.now parts position }
 {
     let mut i = parts;
     let mut left = position;
@@ -338,8 +338,8 @@ pub(crate) fn write_at(
     out: &mut [u8],
     end: usize,
 )
-    requires { (parts ≤ 16) × Laid offsets.now lengths.now radices.now parts (length forms.now) × (lengthIn lengths.now radices.now parts position ≤ end) × (end ≤ length out.old) }
-    ensures { out.new ≡ paste out.old (end - lengthIn lengths.now radices.now parts position) (keyingIn forms.now offsets.now lengths.now radices.now parts position) (lengthIn lengths.now radices.now parts position) }
+    requires { (parts ≤ 16) × Laid offsets.now lengths.now radices.now parts (length forms.now) × (length_in lengths.now radices.now parts position ≤ end) × (end ≤ length out.old) }
+    ensures { out.new ≡ paste out.old (end - length_in lengths.now radices.now parts position) (keying_in forms.now offsets.now lengths.now radices.now parts position) (length_in lengths.now radices.now parts position) }
 {
     let mut i = parts;
     let mut left = position;
@@ -368,7 +368,7 @@ fn place(
     out: &mut [u8],
 ) -> Keying
     requires { (parts ≤ 16) × Laid offsets lengths radices parts (length forms.now) }
-    ensures { keyingReply result out.new ≡ laidReply (countIn radices parts) (keyingIn forms.now offsets lengths radices parts position) position out.old }
+    ensures { keying_reply result out.new ≡ laid_reply (count_in radices parts) (keying_in forms.now offsets lengths radices parts position) position out.old }
 {
     let count = count_of(&radices, parts);
     if count <= position {
@@ -395,7 +395,7 @@ fn keying_in(
     out: &mut [u8],
 ) -> Keying
     requires { Entry entry.now parts × (5 * length entry.now + 32 ≤ length forms.old) × (length forms.old ≤ 65535) }
-    ensures { keyingReply result out.new ≡ keyingCall unicode16 entry.now kind position out.old }
+    ensures { keying_reply result out.new ≡ keying_call unicode16 entry.now kind position out.old }
 {
     let mut offsets = [[0u16; 4]; 16];
     let mut lengths = [[0u16; 4]; 16];
@@ -407,7 +407,7 @@ fn keying_in(
 // small buffer: clearing it is quicker.
 fn keying_of(entry: &[u8], parts: usize, kind: Kind, position: u64, out: &mut [u8]) -> Keying
     requires { Entry entry.now parts }
-    ensures { keyingReply result out.new ≡ keyingCall unicode16 entry.now kind position out.old }
+    ensures { keying_reply result out.new ≡ keying_call unicode16 entry.now kind position out.old }
 {
     if entry.len() <= 32 {
         let mut forms = [0u8; 192];
@@ -419,7 +419,7 @@ fn keying_of(entry: &[u8], parts: usize, kind: Kind, position: u64, out: &mut [u
 
 // The keying of an entry at a position of the list of a kind, in `out`.
 pub fn keying_at(entry: &[u8], kind: Kind, position: u64, out: &mut [u8]) -> Keying
-    ensures { keyingReply result out.new ≡ keyingCall unicode16 entry.now kind position out.old }
+    ensures { keying_reply result out.new ≡ keying_call unicode16 entry.now kind position out.old }
 {
     match unicode::check(entry, 1024) {
         Verdict::Refused(why) => Keying::Refused(why),

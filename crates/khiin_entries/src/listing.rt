@@ -1,12 +1,12 @@
 // What the program `keylist` prints, block by block: of the lines of an entry as many, from a given one on, as go into the lent buffer.
 ghost use Rattle.std.specs.Prelude.{◌≡◌, [], ◌∷◌, ◌+◌, ◌≤◌, ◌<◌, length};
 ghost use Rattle.std.proofs.Math.Seq.{paste};
-ghost use Rattle.ji.specs.Unicode.{unicode16, pickNumber};
+ghost use Rattle.ji.specs.Unicode.{unicode16, pick_number};
 ghost use Rattle.ji.specs.Reply.{over};
 ghost use Rattle.khiin_entries.specs.KeySequence.{split};
-ghost use Rattle.khiin_entries.specs.Choices.{Entry, Laid, lengthIn};
-ghost use Rattle.khiin_entries.specs.Listing.{digitCount, decimal, listing, together, shown};
-ghost use Rattle.khiin_entries.specs.Lines.{numberThen, headerLine, refusalLine, dottedIn, lineIn, linesIn, Put, Shown, Following, throughNumeric, throughTelex, Reached};
+ghost use Rattle.khiin_entries.specs.Choices.{Entry, Laid, length_in};
+ghost use Rattle.khiin_entries.specs.Listing.{digit_count, decimal, listing, together, shown};
+ghost use Rattle.khiin_entries.specs.Lines.{number_then, header_line, refusal_line, dotted_in, line_in, lines_in, Put, Shown, Following, through_numeric, through_telex, Reached};
 
 use crate::key_sequence::{count_of, count_parts, lay_parts, length_at, part_end, put, write_at};
 use ji::lomaji::dot::holds_dot;
@@ -24,7 +24,7 @@ pub struct Listed {
 
 // How many digits a number has.
 fn digit_count(n: u64) -> usize
-    ensures { (result ≡ digitCount 19 n) × (result ≤ 20) }
+    ensures { (result ≡ digit_count 19 n) × (result ≤ 20) }
 {
     let mut left = n;
     let mut digits: usize = 1;
@@ -37,7 +37,7 @@ fn digit_count(n: u64) -> usize
 
 // Writes a number that has these many digits, from its last digit to its first.
 fn put_decimal(n: u64, digits: usize, out: &mut [u8], at: usize)
-    requires { (digits ≡ digitCount 19 n) × (at + digits ≤ length out.old) }
+    requires { (digits ≡ digit_count 19 n) × (at + digits ≤ length out.old) }
     ensures { out.new ≡ paste out.old at (decimal n) (length (decimal n)) }
 {
     let mut i = at + digits;
@@ -51,8 +51,8 @@ fn put_decimal(n: u64, digits: usize, out: &mut [u8], at: usize)
 
 // Writes a number and a byte behind it, and returns the place behind both.
 fn put_number(n: u64, digits: usize, last: u8, out: &mut [u8], at: usize) -> usize
-    requires { (digits ≡ digitCount 19 n) × (at + digits < length out.old) }
-    ensures { (result ≡ at + digits + 1) × Put out.old out.new at (numberThen n last) result }
+    requires { (digits ≡ digit_count 19 n) × (at + digits < length out.old) }
+    ensures { (result ≡ at + digits + 1) × Put out.old out.new at (number_then n last) result }
 {
     put_decimal(n, digits, out, at);
     let end = at + digits;
@@ -74,8 +74,8 @@ fn put_line(
     out: &mut [u8],
     at: usize,
 ) -> usize
-    requires { (parts ≤ 16) × Laid offsets.now lengths.now radices.now parts (length forms.now) × (digits ≡ digitCount 19 position) × (n ≡ lengthIn lengths.now radices.now parts position) × (at + (digits + n + 4) ≤ length out.old) }
-    ensures { Put out.old out.new at (lineIn letter forms.now offsets.now lengths.now radices.now parts position) result }
+    requires { (parts ≤ 16) × Laid offsets.now lengths.now radices.now parts (length forms.now) × (digits ≡ digit_count 19 position) × (n ≡ length_in lengths.now radices.now parts position) × (at + (digits + n + 4) ≤ length out.old) }
+    ensures { Put out.old out.new at (line_in letter forms.now offsets.now lengths.now radices.now parts position) result }
 {
     out[at] = letter;
     out[at + 1] = 0x20;
@@ -100,7 +100,7 @@ fn put_lines(
     at: usize,
 ) -> Listed
     requires { (parts ≤ 16) × Laid offsets.now lengths.now radices.now parts (length forms.now) × (length forms.now ≤ 65535) × (at ≤ length out.old) }
-    ensures { Shown (linesIn letter forms.now offsets.now lengths.now radices.now parts count) from at out.old out.new result.next result.len.0 }
+    ensures { Shown (lines_in letter forms.now offsets.now lengths.now radices.now parts count) from at out.old out.new result.next result.len.0 }
 {
     let mut i = from;
     let mut end = at;
@@ -140,7 +140,7 @@ fn put_section(
     at: usize,
 ) -> Listed
     requires { (parts ≤ 16) × Laid offsets.now lengths.now radices.now parts (length forms.now) × (length forms.now ≤ 65535) × (count ≤ 4294967296) × (first ≤ 17179869184) × (at ≤ length out.old) }
-    ensures { Following (linesIn letter forms.now offsets.now lengths.now radices.now parts count) first next at out.old out.new result.next result.len.0 }
+    ensures { Following (lines_in letter forms.now offsets.now lengths.now radices.now parts count) first next at out.old out.new result.next result.len.0 }
 {
     if next < first {
         return Listed {
@@ -168,7 +168,7 @@ fn put_section(
 }
 
 fn one_if(yes: bool) -> u64
-    ensures { result ≡ pickNumber yes 1 0 }
+    ensures { result ≡ pick_number yes 1 0 }
 {
     if yes {
         return 1;
@@ -179,7 +179,7 @@ fn one_if(yes: bool) -> u64
 // How many parts hold U+0358.
 fn count_dotted(entry: &[u8]) -> u64
     requires { length entry.now ≤ 1024 }
-    ensures { result ≡ dottedIn (split entry.now) }
+    ensures { result ≡ dotted_in (split entry.now) }
 {
     let mut at: usize = 0;
     let mut n: u64 = 0;
@@ -224,7 +224,7 @@ fn put_header(
     from: u64,
     out: &mut [u8],
 ) -> Listed
-    ensures { Shown (headerLine parts dots numeric telex detoned ∷ []) from 0 out.old out.new result.next result.len.0 }
+    ensures { Shown (header_line parts dots numeric telex detoned ∷ []) from 0 out.old out.new result.next result.len.0 }
 {
     let mut line = [0u8; 105];
     let a = put_number(parts, digit_count(parts), 0x20, &mut line, 0);
@@ -237,7 +237,7 @@ fn put_header(
 
 // The only line where the entry is refused.
 fn list_refusal(why: Refusal, from: u64, out: &mut [u8]) -> Listed
-    ensures { Shown (refusalLine why ∷ []) from 0 out.old out.new result.next result.len.0 }
+    ensures { Shown (refusal_line why ∷ []) from 0 out.old out.new result.next result.len.0 }
 {
     let mut line = [0u8; 29];
     put(b"refused ", &mut line, 0);
@@ -264,7 +264,7 @@ fn list_numeric(
     out: &mut [u8],
 ) -> Begun
     requires { Entry entry.now parts }
-    ensures { Reached (throughNumeric entry.now parts telex detoned) from out.old out.new result.next result.len.0 result.lines × (result.lines ≤ 4294967297) }
+    ensures { Reached (through_numeric entry.now parts telex detoned) from out.old out.new result.next result.len.0 result.lines × (result.lines ≤ 4294967297) }
 {
     let mut offsets = [[0u16; 4]; 16];
     let mut lengths = [[0u16; 4]; 16];
@@ -295,7 +295,7 @@ fn list_numeric(
 // The same, and the telex lines.
 fn list_telex(entry: &[u8], parts: usize, detoned: u64, from: u64, out: &mut [u8]) -> Begun
     requires { Entry entry.now parts }
-    ensures { Reached (throughTelex entry.now parts detoned) from out.old out.new result.next result.len.0 result.lines × (result.lines ≤ 8589934593) }
+    ensures { Reached (through_telex entry.now parts detoned) from out.old out.new result.next result.len.0 result.lines × (result.lines ≤ 8589934593) }
 {
     let mut offsets = [[0u16; 4]; 16];
     let mut lengths = [[0u16; 4]; 16];

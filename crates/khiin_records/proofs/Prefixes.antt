@@ -10,336 +10,336 @@ use borrow.Author.Tests.{eq-eqb, ne_eqb, eqb-true, eqb-false}
 use lib.Dec.{leb, eqb}
 use lib.ListN.{length, take, drop, get_or, drop_of_length-le}
 use lib.Seq.{paste}
-use Rattle.ji.specs.Unicode.{Table, pickNumber, same, listed}
-use Rattle.ji.specs.Text.{point, begins, within, lower, allAscii}
+use Rattle.ji.specs.Unicode.{Table, pick_number, same, listed}
+use Rattle.ji.specs.Text.{point, begins, within, lower, all_ascii}
 use Rattle.ji.specs.Utf8.{encode}
 use Rattle.ji.specs.Written.{Written}
-use Rattle.ji.specs.Tone.{toneNumber, isTone}
-use Rattle.ji.specs.Reply.{refused, Checked, good, bad, checkText}
-use Rattle.ji.specs.Lomaji.Dot.{dotIn}
+use Rattle.ji.specs.Tone.{tone_number, is_tone}
+use Rattle.ji.specs.Reply.{refused, Checked, good, bad, check_text}
+use Rattle.ji.specs.Lomaji.Dot.{dot_in}
 use Rattle.ji.specs.Lomaji.Strip.{strip}
-use Rattle.ji.specs.Lomaji.Khin.{withoutKhin, khinIn}
+use Rattle.ji.specs.Lomaji.Khin.{without_khin, khin_in}
 use Rattle.ji.specs.declared.reply.Refusal.{Refusal}
 use Rattle.ji.specs.declared.tone.Tone.{Tone}
 use Rattle.ji.specs.declared.lomaji.khin.Khin.{Khin}
-use Rattle.ji.proofs.Bools.{either, false-true, and-no, and-yes, and-true, number-yes, number-no, text-yes, within-is}
-use Rattle.ji.proofs.Writing.{written-run}
-use Rattle.ji.proofs.text.Laws.{drop-next}
-use Rattle.ji.proofs.lomaji.dot.Laws.{dot-listed}
-use Rattle.ji.proofs.unicode.Ascii.{ascii-low, ascii-rest}
-use Rattle.ji.proofs.unicode.Bytes.{bytes-one, bytes-two, bytes-three, bytes-four, encode-nil, encode-cons}
-use Rattle.khiin_records.specs.Syllable.{Syllable, raw, pickSyllable, default, toneDigit, khinKey, candidate, candidatesOf, fromComposed, fromRaw, placedRecord, checkKeys}
-use Rattle.khiin_records.specs.RawBytes.{Body, bodyFrom, bodyOf}
-use Rattle.khiin_records.specs.Alignment.{sharedPrefix, longer, nearest, nearestOf, grows, alignedWith, aligned, alignOf, alignCall}
+use Rattle.ji.proofs.Bools.{either, false_true, and_no, and_yes, and_true, number_yes, number_no, text_yes, within_is}
+use Rattle.ji.proofs.Writing.{written_run}
+use Rattle.ji.proofs.text.Laws.{drop_next}
+use Rattle.ji.proofs.lomaji.dot.Laws.{dot_listed}
+use Rattle.ji.proofs.unicode.Ascii.{ascii_low, ascii_rest}
+use Rattle.ji.proofs.unicode.Bytes.{bytes_one, bytes_two, bytes_three, bytes_four, encode_nil, encode_cons}
+use Rattle.khiin_records.specs.Syllable.{Syllable, raw, pick_syllable, default, tone_digit, khin_key, candidate, candidates_of, from_composed, from_raw, placed_record, check_keys}
+use Rattle.khiin_records.specs.RawBytes.{Body, body_from, body_of}
+use Rattle.khiin_records.specs.Alignment.{shared_prefix, longer, nearest, nearest_of, grows, aligned_with, aligned, align_of, align_call}
 use Rattle.khiin_records.specs.Prefixes.{NearestPrefix}
-use Rattle.khiin_records.proofs.RawBytes.{from-copy, body-is}
-use Rattle.khiin_records.proofs.Records.{candidates-two, candidates-one}
-use Rattle.khiin_records.proofs.Candidates.{raw-bytes, keys-few}
+use Rattle.khiin_records.proofs.RawBytes.{from_copy, body_is}
+use Rattle.khiin_records.proofs.Records.{candidates_two, candidates_one}
+use Rattle.khiin_records.proofs.Candidates.{raw_bytes, keys_few}
 
 -- ── a raw input that was written: the body, and the keys behind it
-pub raw-written : (t : Tone) (k : Khin) (before mid after : List ℕ) (n len : ℕ) (body : List ℕ) → Written before mid n body → len ≡ n + length (toneDigit t ++ khinKey k)
-    → after ≡ paste mid n (toneDigit t ++ khinKey k) (length (toneDigit t ++ khinKey k)) → n + 2 ≤ length before → Written before after len (body ++ (toneDigit t ++ khinKey k))
-raw-written t k before mid after n len body w size is room = rw (size, is) (written-run w (toneDigit t ++ khinKey k) (omega (arith, keys-few t k)))
+pub raw_written : (t : Tone) (k : Khin) (before mid after : List ℕ) (n len : ℕ) (body : List ℕ) → Written before mid n body → len ≡ n + length (tone_digit t ++ khin_key k)
+    → after ≡ paste mid n (tone_digit t ++ khin_key k) (length (tone_digit t ++ khin_key k)) → n + 2 ≤ length before → Written before after len (body ++ (tone_digit t ++ khin_key k))
+raw_written t k before mid after n len body w size is room = rw (size, is) (written_run w (tone_digit t ++ khin_key k) (omega (arith, keys_few t k)))
 
 -- ── turn by turn
 module _ (keys s : List ℕ) (i : ℕ) (more : i < length keys) (some : i < length s) where
-  at-place : sharedPrefix (drop i keys) (drop i s) ≡ pickNumber (eqb (lower (get_or keys i 0)) (lower (get_or s i 0))) (suc (sharedPrefix (drop (i + 1) keys) (drop (i + 1) s))) 0
-  unfolding sharedPrefix
-  at-place = ap₂ sharedPrefix (drop-next keys i more) (drop-next s i some)
+  at_place : shared_prefix (drop i keys) (drop i s) ≡ pick_number (eqb (lower (get_or keys i 0)) (lower (get_or s i 0))) (suc (shared_prefix (drop (i + 1) keys) (drop (i + 1) s))) 0
+  unfolding shared_prefix
+  at_place = ap₂ shared_prefix (drop_next keys i more) (drop_next s i some)
 
-  pub prefix-more : eqb (lower (get_or keys i 0)) (lower (get_or s i 0)) ≡ true → sharedPrefix (drop i keys) (drop i s) ≡ suc (sharedPrefix (drop (i + 1) keys) (drop (i + 1) s))
-  prefix-more e = at-place ∙ number-yes _ _ _ e
+  pub prefix_more : eqb (lower (get_or keys i 0)) (lower (get_or s i 0)) ≡ true → shared_prefix (drop i keys) (drop i s) ≡ suc (shared_prefix (drop (i + 1) keys) (drop (i + 1) s))
+  prefix_more e = at_place ∙ number_yes _ _ _ e
 
-  pub prefix-less : eqb (lower (get_or keys i 0)) (lower (get_or s i 0)) ≡ false → sharedPrefix (drop i keys) (drop i s) ≡ 0
-  prefix-less e = at-place ∙ number-no _ _ _ e
+  pub prefix_less : eqb (lower (get_or keys i 0)) (lower (get_or s i 0)) ≡ false → shared_prefix (drop i keys) (drop i s) ≡ 0
+  prefix_less e = at_place ∙ number_no _ _ _ e
 
-without-keys : (s : List ℕ) → sharedPrefix [] s ≡ 0
-unfolding sharedPrefix
-without-keys s = refl
+without_keys : (s : List ℕ) → shared_prefix [] s ≡ 0
+unfolding shared_prefix
+without_keys s = refl
 
-pub with-nothing : (keys : List ℕ) → sharedPrefix keys [] ≡ 0
-unfolding sharedPrefix
-with-nothing [] = refl
-with-nothing (k ∷ keys) = refl
+pub with_nothing : (keys : List ℕ) → shared_prefix keys [] ≡ 0
+unfolding shared_prefix
+with_nothing [] = refl
+with_nothing (k ∷ keys) = refl
 
-pub prefix-keys-end : (keys s : List ℕ) (i : ℕ) → length keys ≤ i → sharedPrefix (drop i keys) s ≡ 0
-prefix-keys-end keys s i h = ap (λ (l : List ℕ). sharedPrefix l s) (drop_of_length-le keys h) ∙ without-keys s
+pub prefix_keys_end : (keys s : List ℕ) (i : ℕ) → length keys ≤ i → shared_prefix (drop i keys) s ≡ 0
+prefix_keys_end keys s i h = ap (λ (l : List ℕ). shared_prefix l s) (drop_of_length-le keys h) ∙ without_keys s
 
-pub prefix-text-end : (keys s : List ℕ) (i : ℕ) → length s ≤ i → sharedPrefix keys (drop i s) ≡ 0
-prefix-text-end keys s i h = ap (sharedPrefix keys) (drop_of_length-le s h) ∙ with-nothing keys
+pub prefix_text_end : (keys s : List ℕ) (i : ℕ) → length s ≤ i → shared_prefix keys (drop i s) ≡ 0
+prefix_text_end keys s i h = ap (shared_prefix keys) (drop_of_length-le s h) ∙ with_nothing keys
 
 -- the first byte of a raw input
-pub prefix-first : (keys : List ℕ) (i x : ℕ) (s : List ℕ) → i < length keys
-    → sharedPrefix (drop i keys) (x ∷ s) ≡ pickNumber (eqb (lower (get_or keys i 0)) (lower x)) (suc (sharedPrefix (drop (i + 1) keys) s)) 0
-unfolding sharedPrefix
-prefix-first keys i x s more = ap (λ (l : List ℕ). sharedPrefix l (x ∷ s)) (drop-next keys i more)
+pub prefix_first : (keys : List ℕ) (i x : ℕ) (s : List ℕ) → i < length keys
+    → shared_prefix (drop i keys) (x ∷ s) ≡ pick_number (eqb (lower (get_or keys i 0)) (lower x)) (suc (shared_prefix (drop (i + 1) keys) s)) 0
+unfolding shared_prefix
+prefix_first keys i x s more = ap (λ (l : List ℕ). shared_prefix l (x ∷ s)) (drop_next keys i more)
 
-pub prefix-fits : (keys s : List ℕ) → sharedPrefix keys s ≤ length keys
-unfolding sharedPrefix
-prefix-fits [] s = omega arith
-prefix-fits (k ∷ keys) [] = omega arith
-prefix-fits (k ∷ keys) (c ∷ s) =
+pub prefix_fits : (keys s : List ℕ) → shared_prefix keys s ≤ length keys
+unfolding shared_prefix
+prefix_fits [] s = omega arith
+prefix_fits (k ∷ keys) [] = omega arith
+prefix_fits (k ∷ keys) (c ∷ s) =
     either (eqb (lower k) (lower c))
-    (λ e. omega (arith, number-yes (eqb (lower k) (lower c)) (suc (sharedPrefix keys s)) 0 e, prefix-fits keys s))
-    (λ e. omega (arith, number-no (eqb (lower k) (lower c)) (suc (sharedPrefix keys s)) 0 e))
+    (λ e. omega (arith, number_yes (eqb (lower k) (lower c)) (suc (shared_prefix keys s)) 0 e, prefix_fits keys s))
+    (λ e. omega (arith, number_no (eqb (lower k) (lower c)) (suc (shared_prefix keys s)) 0 e))
 
 -- a raw input in two parts: the prefix ends in the first part, or goes through it
-prefix-within : (keys a b : List ℕ) → sharedPrefix keys a < length a → sharedPrefix keys (a ++ b) ≡ sharedPrefix keys a
-unfolding sharedPrefix
-prefix-within [] a b h = refl
-prefix-within (k ∷ keys) [] b h = absurd (omega arith)
-prefix-within (k ∷ keys) (c ∷ a) b h =
+prefix_within : (keys a b : List ℕ) → shared_prefix keys a < length a → shared_prefix keys (a ++ b) ≡ shared_prefix keys a
+unfolding shared_prefix
+prefix_within [] a b h = refl
+prefix_within (k ∷ keys) [] b h = absurd (omega arith)
+prefix_within (k ∷ keys) (c ∷ a) b h =
     either (eqb (lower k) (lower c))
-    (λ e. ap (λ (n : ℕ). pickNumber (eqb (lower k) (lower c)) (suc n) 0) (prefix-within keys a b (omega (arith, number-yes (eqb (lower k) (lower c)) (suc (sharedPrefix keys a)) 0 e))))
-    (λ e. number-no _ _ _ e ∙ sym (number-no _ _ _ e))
+    (λ e. ap (λ (n : ℕ). pick_number (eqb (lower k) (lower c)) (suc n) 0) (prefix_within keys a b (omega (arith, number_yes (eqb (lower k) (lower c)) (suc (shared_prefix keys a)) 0 e))))
+    (λ e. number_no _ _ _ e ∙ sym (number_no _ _ _ e))
 
-prefix-through : (keys a b : List ℕ) → length a ≤ sharedPrefix keys a → sharedPrefix keys (a ++ b) ≡ sharedPrefix keys a + sharedPrefix (drop (sharedPrefix keys a) keys) b
-unfolding sharedPrefix
-prefix-through [] [] b h = refl
-prefix-through [] (c ∷ a) b h = absurd (omega arith)
-prefix-through (k ∷ keys) [] b h = omega arith
-prefix-through (k ∷ keys) (c ∷ a) b h =
+prefix_through : (keys a b : List ℕ) → length a ≤ shared_prefix keys a → shared_prefix keys (a ++ b) ≡ shared_prefix keys a + shared_prefix (drop (shared_prefix keys a) keys) b
+unfolding shared_prefix
+prefix_through [] [] b h = refl
+prefix_through [] (c ∷ a) b h = absurd (omega arith)
+prefix_through (k ∷ keys) [] b h = omega arith
+prefix_through (k ∷ keys) (c ∷ a) b h =
     either (eqb (lower k) (lower c))
-    (λ e. let f = prefix-through keys a b (omega (arith, number-yes (eqb (lower k) (lower c)) (suc (sharedPrefix keys a)) 0 e)) in
+    (λ e. let f = prefix_through keys a b (omega (arith, number_yes (eqb (lower k) (lower c)) (suc (shared_prefix keys a)) 0 e)) in
     rw e (omega (arith, f)))
-    (λ e. absurd (omega (arith, number-no (eqb (lower k) (lower c)) (suc (sharedPrefix keys a)) 0 e)))
+    (λ e. absurd (omega (arith, number_no (eqb (lower k) (lower c)) (suc (shared_prefix keys a)) 0 e)))
 
 -- ── over the bytes as over the code points: a byte above 7F, like a code point above it, is no key
-lower-low : (x : ℕ) → x ≤ 0x7F → lower x ≤ 0x7F
+lower_low : (x : ℕ) → x ≤ 0x7F → lower x ≤ 0x7F
 unfolding lower
-lower-low x h =
+lower_low x h =
     either (within (point "A") (point "Z") x)
-    (λ e. omega (arith, number-yes (within (point "A") (point "Z") x) (x + 32) x e, (within-is (point "A") (point "Z") x e).1))
-    (λ e. omega (arith, number-no (within (point "A") (point "Z") x) (x + 32) x e))
+    (λ e. omega (arith, number_yes (within (point "A") (point "Z") x) (x + 32) x e, (within_is (point "A") (point "Z") x e).1))
+    (λ e. omega (arith, number_no (within (point "A") (point "Z") x) (x + 32) x e))
 
-lower-high : (x : ℕ) → 0x7F < x → 0x7F < lower x
+lower_high : (x : ℕ) → 0x7F < x → 0x7F < lower x
 unfolding lower
-lower-high x h =
+lower_high x h =
     either (within (point "A") (point "Z") x)
-    (λ e. omega (arith, number-yes (within (point "A") (point "Z") x) (x + 32) x e))
-    (λ e. omega (arith, number-no (within (point "A") (point "Z") x) (x + 32) x e))
+    (λ e. omega (arith, number_yes (within (point "A") (point "Z") x) (x + 32) x e))
+    (λ e. omega (arith, number_no (within (point "A") (point "Z") x) (x + 32) x e))
 
 module _ (k : ℕ) (keys : List ℕ) (low : k ≤ 0x7F) where
-  apart : (c : ℕ) (s : List ℕ) → 0x7F < c → sharedPrefix (k ∷ keys) (c ∷ s) ≡ 0
-  unfolding sharedPrefix
-  apart c s high = number-no _ _ _ (ne_eqb (lower k) (lower c) (λ e. omega (arith, e, lower-low k low, lower-high c high)))
+  apart : (c : ℕ) (s : List ℕ) → 0x7F < c → shared_prefix (k ∷ keys) (c ∷ s) ≡ 0
+  unfolding shared_prefix
+  apart c s high = number_no _ _ _ (ne_eqb (lower k) (lower c) (λ e. omega (arith, e, lower_low k low, lower_high c high)))
 
   -- the first byte of a code point above 7F
-  bytes-apart : (c : ℕ) (s : List ℕ) → 0x7F < c → sharedPrefix (k ∷ keys) (encode (c ∷ s)) ≡ 0
-  bytes-apart c s high = by-size (dec_le c 0x7FF) (dec_le c 0xFFFF)
+  bytes_apart : (c : ℕ) (s : List ℕ) → 0x7F < c → shared_prefix (k ∷ keys) (encode (c ∷ s)) ≡ 0
+  bytes_apart c s high = by_size (dec_le c 0x7FF) (dec_le c 0xFFFF)
     where
-      first : (b : ℕ) (r : List ℕ) → encode (c ∷ s) ≡ b ∷ r → 0x7F < b → sharedPrefix (k ∷ keys) (encode (c ∷ s)) ≡ 0
-      first b r e h = ap (sharedPrefix (k ∷ keys)) e ∙ apart b r h
+      first : (b : ℕ) (r : List ℕ) → encode (c ∷ s) ≡ b ∷ r → 0x7F < b → shared_prefix (k ∷ keys) (encode (c ∷ s)) ≡ 0
+      first b r e h = ap (shared_prefix (k ∷ keys)) e ∙ apart b r h
 
-      by-size : Dec (c ≤ 0x7FF) → Dec (c ≤ 0xFFFF) → sharedPrefix (k ∷ keys) (encode (c ∷ s)) ≡ 0
-      by-size (yes p) q = first _ _ (encode-cons c s ∙ ap (λ (l : List ℕ). l ++ encode s) (bytes-two c high p)) (omega arith)
-      by-size (no p) (yes q) = first _ _ (encode-cons c s ∙ ap (λ (l : List ℕ). l ++ encode s) (bytes-three c (omega arith) q)) (omega arith)
-      by-size (no p) (no q) = first _ _ (encode-cons c s ∙ ap (λ (l : List ℕ). l ++ encode s) (bytes-four c (omega arith))) (omega arith)
+      by_size : Dec (c ≤ 0x7FF) → Dec (c ≤ 0xFFFF) → shared_prefix (k ∷ keys) (encode (c ∷ s)) ≡ 0
+      by_size (yes p) q = first _ _ (encode_cons c s ∙ ap (λ (l : List ℕ). l ++ encode s) (bytes_two c high p)) (omega arith)
+      by_size (no p) (yes q) = first _ _ (encode_cons c s ∙ ap (λ (l : List ℕ). l ++ encode s) (bytes_three c (omega arith) q)) (omega arith)
+      by_size (no p) (no q) = first _ _ (encode_cons c s ∙ ap (λ (l : List ℕ). l ++ encode s) (bytes_four c (omega arith))) (omega arith)
 
-  bytes-turn : (c : ℕ) (s : List ℕ) → sharedPrefix keys (encode s) ≡ sharedPrefix keys s → sharedPrefix (k ∷ keys) (encode (c ∷ s)) ≡ sharedPrefix (k ∷ keys) (c ∷ s)
-  unfolding sharedPrefix
-  bytes-turn c s e = by-size (dec_le c 0x7F)
+  bytes_turn : (c : ℕ) (s : List ℕ) → shared_prefix keys (encode s) ≡ shared_prefix keys s → shared_prefix (k ∷ keys) (encode (c ∷ s)) ≡ shared_prefix (k ∷ keys) (c ∷ s)
+  unfolding shared_prefix
+  bytes_turn c s e = by_size (dec_le c 0x7F)
     where
-      by-size : Dec (c ≤ 0x7F) → sharedPrefix (k ∷ keys) (encode (c ∷ s)) ≡ sharedPrefix (k ∷ keys) (c ∷ s)
-      by-size (yes p) =
-          ap (sharedPrefix (k ∷ keys)) (encode-cons c s ∙ ap (λ (l : List ℕ). l ++ encode s) (bytes-one c p))
-          ∙ ap (λ (n : ℕ). pickNumber (eqb (lower k) (lower c)) (suc n) 0) e
-      by-size (no p) = bytes-apart c s (omega arith) ∙ sym (apart c s (omega arith))
+      by_size : Dec (c ≤ 0x7F) → shared_prefix (k ∷ keys) (encode (c ∷ s)) ≡ shared_prefix (k ∷ keys) (c ∷ s)
+      by_size (yes p) =
+          ap (shared_prefix (k ∷ keys)) (encode_cons c s ∙ ap (λ (l : List ℕ). l ++ encode s) (bytes_one c p))
+          ∙ ap (λ (n : ℕ). pick_number (eqb (lower k) (lower c)) (suc n) 0) e
+      by_size (no p) = bytes_apart c s (omega arith) ∙ sym (apart c s (omega arith))
 
-pub prefix-bytes : (keys s : List ℕ) → allAscii keys ≡ true → sharedPrefix keys (encode s) ≡ sharedPrefix keys s
-prefix-bytes [] s h = without-keys (encode s) ∙ sym (without-keys s)
-prefix-bytes (k ∷ keys) [] h = ap (sharedPrefix (k ∷ keys)) encode-nil
-prefix-bytes (k ∷ keys) (c ∷ s) h = bytes-turn k keys (ascii-low k keys h) c s (prefix-bytes keys s (ascii-rest k keys h))
+pub prefix_bytes : (keys s : List ℕ) → all_ascii keys ≡ true → shared_prefix keys (encode s) ≡ shared_prefix keys s
+prefix_bytes [] s h = without_keys (encode s) ∙ sym (without_keys s)
+prefix_bytes (k ∷ keys) [] h = ap (shared_prefix (k ∷ keys)) encode_nil
+prefix_bytes (k ∷ keys) (c ∷ s) h = bytes_turn k keys (ascii_low k keys h) c s (prefix_bytes keys s (ascii_rest k keys h))
 
 -- ── the nearest candidate
 module _ (keys : List ℕ) (t : Tone) (k : Khin) (u : List ℕ) where
   abbrev spelt : ℕ → Syllable
   spelt vowel = candidate t k u (vowel ∷ [])
 
-  nearest-one : listed u 0x0358 ≡ false → nearestOf keys (candidatesOf t k u) ≡ spelt (point "u")
+  nearest_one : listed u 0x0358 ≡ false → nearest_of keys (candidates_of t k u) ≡ spelt (point "u")
   unfolding nearest
-  nearest-one e = ap (nearestOf keys) (candidates-one t k u e)
+  nearest_one e = ap (nearest_of keys) (candidates_one t k u e)
 
   module _ (e : listed u 0x0358 ≡ true) where
-    nearest-two : nearestOf keys (candidatesOf t k u)
-        ≡ pickSyllable (leb (sharedPrefix keys (raw (spelt (point "u")))) (sharedPrefix keys (raw (spelt (point "o"))))) (spelt (point "o")) (spelt (point "u"))
+    nearest_two : nearest_of keys (candidates_of t k u)
+        ≡ pick_syllable (leb (shared_prefix keys (raw (spelt (point "u")))) (shared_prefix keys (raw (spelt (point "o"))))) (spelt (point "o")) (spelt (point "u"))
     unfolding nearest longer
-    nearest-two = ap (nearestOf keys) (candidates-two t k u e)
+    nearest_two = ap (nearest_of keys) (candidates_two t k u e)
 
-  tones : (b : Bool) → (pickSyllable b (spelt (point "o")) (spelt (point "u"))).tone ≡ t
+  tones : (b : Bool) → (pick_syllable b (spelt (point "o")) (spelt (point "u"))).tone ≡ t
   tones true = refl
   tones false = refl
 
   -- all candidates have the tone
-  pub nearest-tone : (nearestOf keys (candidatesOf t k u)).tone ≡ t
-  nearest-tone =
+  pub nearest_tone : (nearest_of keys (candidates_of t k u)).tone ≡ t
+  nearest_tone =
       either (listed u 0x0358)
-      (λ e. ap (λ (s : Syllable). s.tone) (nearest-two e) ∙ tones (leb (sharedPrefix keys (raw (spelt (point "u")))) (sharedPrefix keys (raw (spelt (point "o"))))))
-      (λ e. ap (λ (s : Syllable). s.tone) (nearest-one e))
+      (λ e. ap (λ (s : Syllable). s.tone) (nearest_two e) ∙ tones (leb (shared_prefix keys (raw (spelt (point "u")))) (shared_prefix keys (raw (spelt (point "o"))))))
+      (λ e. ap (λ (s : Syllable). s.tone) (nearest_one e))
 
 -- the prefix that is shared with the nearest candidate, where those shared with the candidates' bytes are known
-module _ (keys : List ℕ) (t : Tone) (k : Khin) (u s : List ℕ) (e : s ≡ encode u) (h : allAscii keys ≡ true) where
-  abbrev sharedWith : ℕ → ℕ
-  sharedWith vowel = sharedPrefix keys ((bodyOf vowel s).text ++ (toneDigit t ++ khinKey k))
+module _ (keys : List ℕ) (t : Tone) (k : Khin) (u s : List ℕ) (e : s ≡ encode u) (h : all_ascii keys ≡ true) where
+  abbrev shared_with : ℕ → ℕ
+  shared_with vowel = shared_prefix keys ((body_of vowel s).text ++ (tone_digit t ++ khin_key k))
 
-  shares : (vowel : ℕ) → vowel < 0x80 → sharedWith vowel ≡ sharedPrefix keys (raw (spelt keys t k u vowel))
+  shares : (vowel : ℕ) → vowel < 0x80 → shared_with vowel ≡ shared_prefix keys (raw (spelt keys t k u vowel))
   shares vowel low =
-      ap (λ (l : List ℕ). sharedPrefix keys ((bodyOf vowel l).text ++ (toneDigit t ++ khinKey k))) e
-      ∙ ap (sharedPrefix keys) (raw-bytes t k u vowel low)
-      ∙ prefix-bytes keys (raw (spelt keys t k u vowel)) h
+      ap (λ (l : List ℕ). shared_prefix keys ((body_of vowel l).text ++ (tone_digit t ++ khin_key k))) e
+      ∙ ap (shared_prefix keys) (raw_bytes t k u vowel low)
+      ∙ prefix_bytes keys (raw (spelt keys t k u vowel)) h
 
-  pub nearest-alone : (earlier : ℕ) → earlier ≡ sharedWith (point "u") → dotIn s ≡ false → earlier ≡ sharedPrefix keys (raw (nearestOf keys (candidatesOf t k u)))
-  nearest-alone earlier first d =
+  pub nearest_alone : (earlier : ℕ) → earlier ≡ shared_with (point "u") → dot_in s ≡ false → earlier ≡ shared_prefix keys (raw (nearest_of keys (candidates_of t k u)))
+  nearest_alone earlier first d =
       first
       ∙ shares (point "u") (omega arith)
-      ∙ ap (λ (x : Syllable). sharedPrefix keys (raw x)) (sym (nearest-one keys t k u (sym (ap dotIn e ∙ dot-listed u) ∙ d)))
+      ∙ ap (λ (x : Syllable). shared_prefix keys (raw x)) (sym (nearest_one keys t k u (sym (ap dot_in e ∙ dot_listed u) ∙ d)))
 
-  pub nearest-of-two : (earlier later : ℕ) → earlier ≡ sharedWith (point "u") → later ≡ sharedWith (point "o") → dotIn s ≡ true → (b : Bool) → leb earlier later ≡ b
-      → pickNumber b later earlier ≡ sharedPrefix keys (raw (nearestOf keys (candidatesOf t k u)))
-  nearest-of-two earlier later first second d b is =
+  pub nearest_of_two : (earlier later : ℕ) → earlier ≡ shared_with (point "u") → later ≡ shared_with (point "o") → dot_in s ≡ true → (b : Bool) → leb earlier later ≡ b
+      → pick_number b later earlier ≡ shared_prefix keys (raw (nearest_of keys (candidates_of t k u)))
+  nearest_of_two earlier later first second d b is =
       let f = first ∙ shares (point "u") (omega arith) in
       let g = second ∙ shares (point "o") (omega arith) in
       picked b f g
-      ∙ ap (λ (x : Bool). sharedPrefix keys (raw (pickSyllable x (spelt keys t k u (point "o")) (spelt keys t k u (point "u"))))) (sym is ∙ ap₂ leb f g)
-      ∙ ap (λ (x : Syllable). sharedPrefix keys (raw x)) (sym (nearest-two keys t k u (sym (ap dotIn e ∙ dot-listed u) ∙ d)))
+      ∙ ap (λ (x : Bool). shared_prefix keys (raw (pick_syllable x (spelt keys t k u (point "o")) (spelt keys t k u (point "u"))))) (sym is ∙ ap₂ leb f g)
+      ∙ ap (λ (x : Syllable). shared_prefix keys (raw x)) (sym (nearest_two keys t k u (sym (ap dot_in e ∙ dot_listed u) ∙ d)))
     where
-      picked : (b : Bool) → earlier ≡ sharedPrefix keys (raw (spelt keys t k u (point "u"))) → later ≡ sharedPrefix keys (raw (spelt keys t k u (point "o")))
-          → pickNumber b later earlier ≡ sharedPrefix keys (raw (pickSyllable b (spelt keys t k u (point "o")) (spelt keys t k u (point "u"))))
+      picked : (b : Bool) → earlier ≡ shared_prefix keys (raw (spelt keys t k u (point "u"))) → later ≡ shared_prefix keys (raw (spelt keys t k u (point "o")))
+          → pick_number b later earlier ≡ shared_prefix keys (raw (pick_syllable b (spelt keys t k u (point "o")) (spelt keys t k u (point "u"))))
       picked true f g = g
       picked false f g = f
 
 -- ── an ASCII text is the body of its one candidate
-body-from : (vowel : ℕ) (d : List ℕ) (t : Bool) (l : ℕ) (s : List ℕ) → allAscii s ≡ true → bodyFrom vowel 0 d t l s ≡ record { text = d ++ s; dotted = t }
-unfolding bodyFrom begins
-body-from vowel d t l [] h = ap (λ (x : List ℕ). record { text = x; dotted = t }) (sym (append-nil d))
-body-from vowel d t l (b ∷ s) h =
-    let low : b ≤ 0x7F = ascii-low b s h in
-    from-copy vowel d t l b s (and-no _ _ (ne_eqb b 0xCD (λ e. omega (arith, e)))) (and-no _ _ (ne_eqb b 0xE2 (λ e. omega (arith, e))))
-    (and-no _ _ (and-no _ _ (ne_eqb b 0xCC (λ e. omega (arith, e)))))
-    ∙ body-from vowel (d ++ (b ∷ [])) t b s (ascii-rest b s h)
+body_from_law : (vowel : ℕ) (d : List ℕ) (t : Bool) (l : ℕ) (s : List ℕ) → all_ascii s ≡ true → body_from vowel 0 d t l s ≡ record { text = d ++ s; dotted = t }
+unfolding body_from begins
+body_from_law vowel d t l [] h = ap (λ (x : List ℕ). record { text = x; dotted = t }) (sym (append-nil d))
+body_from_law vowel d t l (b ∷ s) h =
+    let low : b ≤ 0x7F = ascii_low b s h in
+    from_copy vowel d t l b s (and_no _ _ (ne_eqb b 0xCD (λ e. omega (arith, e)))) (and_no _ _ (ne_eqb b 0xE2 (λ e. omega (arith, e))))
+    (and_no _ _ (and_no _ _ (ne_eqb b 0xCC (λ e. omega (arith, e)))))
+    ∙ body_from_law vowel (d ++ (b ∷ [])) t b s (ascii_rest b s h)
     ∙ ap (λ (x : List ℕ). record { text = x; dotted = t }) (append_assoc d (b ∷ []) s)
 
-module _ (s : List ℕ) (plain : allAscii s ≡ true) where
-  body-itself : (vowel : ℕ) → bodyOf vowel s ≡ record { text = s; dotted = false }
-  unfolding bodyOf
-  body-itself vowel = body-from vowel [] false 0 s plain
+module _ (s : List ℕ) (plain : all_ascii s ≡ true) where
+  body_itself : (vowel : ℕ) → body_of vowel s ≡ record { text = s; dotted = false }
+  unfolding body_of
+  body_itself vowel = body_from_law vowel [] false 0 s plain
 
-  no-dot : (u : List ℕ) → s ≡ encode u → dotIn s ≡ false
-  no-dot u e =
-      ap dotIn e
-      ∙ dot-listed u
-      ∙ ap (λ (b : Body). b.dotted) (sym (body-is (point "u") (omega arith) u))
-      ∙ ap (λ (l : List ℕ). (bodyOf (point "u") l).dotted) (sym e)
-      ∙ ap (λ (b : Body). b.dotted) (body-itself (point "u"))
+  no_dot : (u : List ℕ) → s ≡ encode u → dot_in s ≡ false
+  no_dot u e =
+      ap dot_in e
+      ∙ dot_listed u
+      ∙ ap (λ (b : Body). b.dotted) (sym (body_is (point "u") (omega arith) u))
+      ∙ ap (λ (l : List ℕ). (body_of (point "u") l).dotted) (sym e)
+      ∙ ap (λ (b : Body). b.dotted) (body_itself (point "u"))
 
-  module _ (keys : List ℕ) (t : Tone) (k : Khin) (h : allAscii keys ≡ true) where
-    near : (n : ℕ) → n ≡ sharedPrefix keys (s ++ (toneDigit t ++ khinKey k)) → NearestPrefix keys s t k n
+  module _ (keys : List ℕ) (t : Tone) (k : Khin) (h : all_ascii keys ≡ true) where
+    near : (n : ℕ) → n ≡ shared_prefix keys (s ++ (tone_digit t ++ khin_key k)) → NearestPrefix keys s t k n
     near n is =
         record {
-          inside = rw is (prefix-fits _ _);
+          inside = rw is (prefix_fits _ _);
           shared = λ u e.
-              nearest-alone keys t k u s e h n
-              (is ∙ ap (λ (b : Body). sharedPrefix keys (b.text ++ (toneDigit t ++ khinKey k))) (sym (body-itself (point "u")))) (no-dot u e);
+              nearest_alone keys t k u s e h n
+              (is ∙ ap (λ (b : Body). shared_prefix keys (b.text ++ (tone_digit t ++ khin_key k))) (sym (body_itself (point "u")))) (no_dot u e);
         }
 
-    pub near-within : (n : ℕ) → n ≡ sharedPrefix keys s → n < length s → NearestPrefix keys s t k n
-    near-within n is less = near n (is ∙ sym (prefix-within keys s (toneDigit t ++ khinKey k) (omega (arith, is))))
+    pub near_within : (n : ℕ) → n ≡ shared_prefix keys s → n < length s → NearestPrefix keys s t k n
+    near_within n is less = near n (is ∙ sym (prefix_within keys s (tone_digit t ++ khin_key k) (omega (arith, is))))
 
-    pub near-through : (n m : ℕ) → n ≡ sharedPrefix keys s → length s ≤ n → m ≡ sharedPrefix (drop n keys) (toneDigit t ++ khinKey k) → NearestPrefix keys s t k (n + m)
-    near-through n m is more rest =
-        near (n + m) (ap (λ (j : ℕ). n + j) rest ∙ ap (λ (j : ℕ). j + sharedPrefix (drop j keys) (toneDigit t ++ khinKey k)) is ∙ sym (prefix-through keys s (toneDigit t ++ khinKey k) (omega (arith, is))))
+    pub near_through : (n m : ℕ) → n ≡ shared_prefix keys s → length s ≤ n → m ≡ shared_prefix (drop n keys) (tone_digit t ++ khin_key k) → NearestPrefix keys s t k (n + m)
+    near_through n m is more rest =
+        near (n + m) (ap (λ (j : ℕ). n + j) rest ∙ ap (λ (j : ℕ). j + shared_prefix (drop j keys) (tone_digit t ++ khin_key k)) is ∙ sym (prefix_through keys s (tone_digit t ++ khin_key k) (omega (arith, is))))
 
 -- ── how many keys are aligned
-digit-one : (t : Tone) → isTone t ≡ true → toneDigit t ≡ (point "0" + toneNumber t) ∷ []
-digit-one t e = text-yes (isTone t) ((point "0" + toneNumber t) ∷ []) [] e
+digit_one : (t : Tone) → is_tone t ≡ true → tone_digit t ≡ (point "0" + tone_number t) ∷ []
+digit_one t e = text_yes (is_tone t) ((point "0" + tone_number t) ∷ []) [] e
 
 -- the keys behind a body, where it is known whether the first of them is shared
-pub digits-first : (keys : List ℕ) (at : ℕ) (t : Tone) (k : Khin) → isTone t ≡ true → (x : ℕ) → x ≡ point "0" + toneNumber t → (b : Bool)
-    → ((s : List ℕ) → sharedPrefix (drop at keys) (x ∷ s) ≡ pickNumber b (suc (sharedPrefix (drop (at + 1) keys) s)) 0)
-    → sharedPrefix (drop at keys) (toneDigit t ++ khinKey k) ≡ pickNumber b (suc (sharedPrefix (drop (at + 1) keys) (khinKey k))) 0
-digits-first keys at t k some x is b f =
-    ap (λ (l : List ℕ). sharedPrefix (drop at keys) (l ++ khinKey k)) (digit-one t some)
-    ∙ ap (λ (y : ℕ). sharedPrefix (drop at keys) (y ∷ khinKey k)) (sym is)
-    ∙ f (khinKey k)
+pub digits_first : (keys : List ℕ) (at : ℕ) (t : Tone) (k : Khin) → is_tone t ≡ true → (x : ℕ) → x ≡ point "0" + tone_number t → (b : Bool)
+    → ((s : List ℕ) → shared_prefix (drop at keys) (x ∷ s) ≡ pick_number b (suc (shared_prefix (drop (at + 1) keys) s)) 0)
+    → shared_prefix (drop at keys) (tone_digit t ++ khin_key k) ≡ pick_number b (suc (shared_prefix (drop (at + 1) keys) (khin_key k))) 0
+digits_first keys at t k some x is b f =
+    ap (λ (l : List ℕ). shared_prefix (drop at keys) (l ++ khin_key k)) (digit_one t some)
+    ∙ ap (λ (y : ℕ). shared_prefix (drop at keys) (y ∷ khin_key k)) (sym is)
+    ∙ f (khin_key k)
 
 -- whether the key at a place is the tone's digit, past the keys' end and before it
-module _ (keys : List ℕ) (n : ℕ) (t : Tone) (some : isTone t ≡ true) where
-  pub no-key : length keys ≤ n → same (take 1 (drop n keys)) (toneDigit t) ≡ false
+module _ (keys : List ℕ) (n : ℕ) (t : Tone) (some : is_tone t ≡ true) where
+  pub no_key : length keys ≤ n → same (take 1 (drop n keys)) (tone_digit t) ≡ false
   unfolding same
-  no-key h = ap₂ (λ (l d : List ℕ). same (take 1 l) d) (drop_of_length-le keys h) (digit-one t some)
+  no_key h = ap₂ (λ (l d : List ℕ). same (take 1 l) d) (drop_of_length-le keys h) (digit_one t some)
 
-  pub key-is : n < length keys → same (take 1 (drop n keys)) (toneDigit t) ≡ eqb (get_or keys n 0) (point "0" + toneNumber t)
+  pub key_is : n < length keys → same (take 1 (drop n keys)) (tone_digit t) ≡ eqb (get_or keys n 0) (point "0" + tone_number t)
   unfolding same
-  key-is h = ap₂ (λ (l d : List ℕ). same (take 1 l) d) (drop-next keys n h) (digit-one t some) ∙ and-true _
+  key_is h = ap₂ (λ (l d : List ℕ). same (take 1 l) d) (drop_next keys n h) (digit_one t some) ∙ and_true _
 
-  pub key-inside : same (take 1 (drop n keys)) (toneDigit t) ≡ true → n < length keys
-  key-inside e = by-place (dec_le (length keys) n)
+  pub key_inside : same (take 1 (drop n keys)) (tone_digit t) ≡ true → n < length keys
+  key_inside e = by_place (dec_le (length keys) n)
     where
-      by-place : Dec (length keys ≤ n) → n < length keys
-      by-place (yes h) = absurd (false-true (sym (no-key h) ∙ e))
-      by-place (no h) = omega arith
+      by_place : Dec (length keys ≤ n) → n < length keys
+      by_place (yes h) = absurd (false_true (sym (no_key h) ∙ e))
+      by_place (no h) = omega arith
 
-module _ (keys : List ℕ) (s : Syllable) (n : ℕ) (is : n ≡ sharedPrefix keys (raw s)) where
-  pub aligned-none : n ≡ 0 → alignedWith keys s ≡ 0
-  unfolding alignedWith
-  aligned-none z = number-yes (eqb (sharedPrefix keys (raw s)) 0) 0 _ (eq-eqb (sharedPrefix keys (raw s)) 0 (sym is ∙ z))
+module _ (keys : List ℕ) (s : Syllable) (n : ℕ) (is : n ≡ shared_prefix keys (raw s)) where
+  pub aligned_none : n ≡ 0 → aligned_with keys s ≡ 0
+  unfolding aligned_with
+  aligned_none z = number_yes (eqb (shared_prefix keys (raw s)) 0) 0 _ (eq-eqb (shared_prefix keys (raw s)) 0 (sym is ∙ z))
 
-  aligned-some : (n ≡ 0 → ⊥) → alignedWith keys s ≡ pickNumber (grows keys n s) (n + 1) n
-  unfolding alignedWith
-  aligned-some h =
-      number-no (eqb (sharedPrefix keys (raw s)) 0) 0 _ (ne_eqb (sharedPrefix keys (raw s)) 0 (λ e. h (is ∙ e)))
-      ∙ ap (λ (k : ℕ). pickNumber (grows keys k s) (k + 1) k) (sym is)
+  aligned_some : (n ≡ 0 → ⊥) → aligned_with keys s ≡ pick_number (grows keys n s) (n + 1) n
+  unfolding aligned_with
+  aligned_some h =
+      number_no (eqb (shared_prefix keys (raw s)) 0) 0 _ (ne_eqb (shared_prefix keys (raw s)) 0 (λ e. h (is ∙ e)))
+      ∙ ap (λ (k : ℕ). pick_number (grows keys k s) (k + 1) k) (sym is)
 
-  module _ (h : (n ≡ 0 → ⊥)) (t : Tone) (toned : s.tone ≡ t) (some : isTone t ≡ true) where
-    grows-is : grows keys n s ≡ same (take 1 (drop (n + 1) keys)) (toneDigit t)
+  module _ (h : (n ≡ 0 → ⊥)) (t : Tone) (toned : s.tone ≡ t) (some : is_tone t ≡ true) where
+    grows_is : grows keys n s ≡ same (take 1 (drop (n + 1) keys)) (tone_digit t)
     unfolding grows
-    grows-is =
-        ap (λ (x : Tone). isTone x && same (take 1 (drop (n + 1) keys)) (toneDigit x)) toned
-        ∙ and-yes (isTone t) (same (take 1 (drop (n + 1) keys)) (toneDigit t)) some
+    grows_is =
+        ap (λ (x : Tone). is_tone x && same (take 1 (drop (n + 1) keys)) (tone_digit x)) toned
+        ∙ and_yes (is_tone t) (same (take 1 (drop (n + 1) keys)) (tone_digit t)) some
 
-    pub aligned-grown : same (take 1 (drop (n + 1) keys)) (toneDigit t) ≡ true → alignedWith keys s ≡ n + 1
-    aligned-grown e = aligned-some h ∙ number-yes _ _ _ (grows-is ∙ e)
+    pub aligned_grown : same (take 1 (drop (n + 1) keys)) (tone_digit t) ≡ true → aligned_with keys s ≡ n + 1
+    aligned_grown e = aligned_some h ∙ number_yes _ _ _ (grows_is ∙ e)
 
-    pub aligned-kept : same (take 1 (drop (n + 1) keys)) (toneDigit t) ≡ false → alignedWith keys s ≡ n
-    aligned-kept e = aligned-some h ∙ number-no _ _ _ (grows-is ∙ e)
+    pub aligned_kept : same (take 1 (drop (n + 1) keys)) (tone_digit t) ≡ false → aligned_with keys s ≡ n
+    aligned_kept e = aligned_some h ∙ number_no _ _ _ (grows_is ∙ e)
 
 -- no more keys are aligned than there are
-aligned-fits : (keys : List ℕ) (s : Syllable) → isTone s.tone ≡ true → alignedWith keys s ≤ length keys
-aligned-fits keys s some =
-    let n : ℕ = sharedPrefix keys (raw s) in
+aligned_fits : (keys : List ℕ) (s : Syllable) → is_tone s.tone ≡ true → aligned_with keys s ≤ length keys
+aligned_fits keys s some =
+    let n : ℕ = shared_prefix keys (raw s) in
     either (eqb n 0)
-    (λ z. omega (arith, aligned-none keys s n refl (eqb-true n 0 z)))
-    (λ z. either (same (take 1 (drop (n + 1) keys)) (toneDigit s.tone))
-    (λ e. omega (arith, aligned-grown keys s n refl (eqb-false n 0 z) s.tone refl some e, key-inside keys (n + 1) s.tone some e))
-    (λ e. omega (arith, aligned-kept keys s n refl (eqb-false n 0 z) s.tone refl some e, prefix-fits keys (raw s))))
+    (λ z. omega (arith, aligned_none keys s n refl (eqb-true n 0 z)))
+    (λ z. either (same (take 1 (drop (n + 1) keys)) (tone_digit s.tone))
+    (λ e. omega (arith, aligned_grown keys s n refl (eqb-false n 0 z) s.tone refl some e, key_inside keys (n + 1) s.tone some e))
+    (λ e. omega (arith, aligned_kept keys s n refl (eqb-false n 0 z) s.tone refl some e, prefix_fits keys (raw s))))
 
-pub aligned-inside : (keys : List ℕ) (t : Tone) (k : Khin) (u : List ℕ) → isTone t ≡ true → alignedWith keys (nearestOf keys (candidatesOf t k u)) ≤ length keys
-aligned-inside keys t k u some = aligned-fits keys (nearestOf keys (candidatesOf t k u)) (ap isTone (nearest-tone keys t k u) ∙ some)
+pub aligned_inside : (keys : List ℕ) (t : Tone) (k : Khin) (u : List ℕ) → is_tone t ≡ true → aligned_with keys (nearest_of keys (candidates_of t k u)) ≤ length keys
+aligned_inside keys t k u some = aligned_fits keys (nearest_of keys (candidates_of t k u)) (ap is_tone (nearest_tone keys t k u) ∙ some)
 
 -- ── the call, once the texts are checked
 module _ (t : Table) (keys target buffer : List ℕ) where
-  pub align-keys-refused : (why : Refusal) → checkKeys keys ≡ bad why → refused why buffer ≡ alignCall t keys target buffer
-  unfolding alignCall
-  align-keys-refused why e = sym (ap (λ (k : Checked). alignOf t k (checkText t target) buffer) e)
+  pub align_keys_refused : (why : Refusal) → check_keys keys ≡ bad why → refused why buffer ≡ align_call t keys target buffer
+  unfolding align_call
+  align_keys_refused why e = sym (ap (λ (k : Checked). align_of t k (check_text t target) buffer) e)
 
-  pub align-keys-good : checkKeys keys ≡ good keys → alignOf t (good keys) (checkText t target) buffer ≡ alignCall t keys target buffer
-  unfolding alignCall
-  align-keys-good e = sym (ap (λ (k : Checked). alignOf t k (checkText t target) buffer) e)
+  pub align_keys_good : check_keys keys ≡ good keys → align_of t (good keys) (check_text t target) buffer ≡ align_call t keys target buffer
+  unfolding align_call
+  align_keys_good e = sym (ap (λ (k : Checked). align_of t k (check_text t target) buffer) e)
 
-  pub align-target-refused : (why : Refusal) → checkText t target ≡ bad why → refused why buffer ≡ alignOf t (good keys) (checkText t target) buffer
-  align-target-refused why e = sym (ap (λ (k : Checked). alignOf t (good keys) k buffer) e)
+  pub align_target_refused : (why : Refusal) → check_text t target ≡ bad why → refused why buffer ≡ align_of t (good keys) (check_text t target) buffer
+  align_target_refused why e = sym (ap (λ (k : Checked). align_of t (good keys) k buffer) e)
 
-  pub align-target-good : (n : ℕ) (u : List ℕ) → checkText t target ≡ good u → n ≡ aligned t keys u
-      → placedRecord 0 (fromRaw (take n keys)) buffer ≡ alignOf t (good keys) (checkText t target) buffer
-  align-target-good n u e is = ap (λ (k : ℕ). placedRecord 0 (fromRaw (take k keys)) buffer) is ∙ sym (ap (λ (k : Checked). alignOf t (good keys) k buffer) e)
+  pub align_target_good : (n : ℕ) (u : List ℕ) → check_text t target ≡ good u → n ≡ aligned t keys u
+      → placed_record 0 (from_raw (take n keys)) buffer ≡ align_of t (good keys) (check_text t target) buffer
+  align_target_good n u e is = ap (λ (k : ℕ). placed_record 0 (from_raw (take k keys)) buffer) is ∙ sym (ap (λ (k : Checked). align_of t (good keys) k buffer) e)
 
 -- what is aligned with a text that is not empty, and with the empty one
-pub aligned-text : (t : Table) (keys u : List ℕ) → 0 < length u
-    → alignedWith keys (nearestOf keys (candidatesOf (strip t u).tone (khinIn (strip t u).rest) (withoutKhin (strip t u).rest))) ≡ aligned t keys u
-unfolding aligned fromComposed
-aligned-text t keys [] h = absurd (omega arith)
-aligned-text t keys (c ∷ s) h = refl
+pub aligned_text : (t : Table) (keys u : List ℕ) → 0 < length u
+    → aligned_with keys (nearest_of keys (candidates_of (strip t u).tone (khin_in (strip t u).rest) (without_khin (strip t u).rest))) ≡ aligned t keys u
+unfolding aligned from_composed
+aligned_text t keys [] h = absurd (omega arith)
+aligned_text t keys (c ∷ s) h = refl
 
-pub aligned-nothing : (t : Table) (keys : List ℕ) → aligned t keys [] ≡ 0
-unfolding aligned fromComposed nearest
-aligned-nothing t keys = aligned-none keys default 0 (sym (with-nothing keys)) refl
+pub aligned_nothing : (t : Table) (keys : List ℕ) → aligned t keys [] ≡ 0
+unfolding aligned from_composed nearest
+aligned_nothing t keys = aligned_none keys default 0 (sym (with_nothing keys)) refl

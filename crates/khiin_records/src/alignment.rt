@@ -1,14 +1,14 @@
 // `from_conversion_alignment`: how many of the keys were typed for a composed syllable, and their record.
 ghost use Rattle.std.specs.Prelude.{◌≡◌, true, List, ◌∷◌, ◌++◌, ℕ, suc, ◌+◌, ◌*◌, ◌≤◌, ◌<◌, leb, eqb, length, take, drop};
-ghost use Rattle.ji.specs.Unicode.{unicode16, pickNumber, same};
+ghost use Rattle.ji.specs.Unicode.{unicode16, pick_number, same};
 ghost use Rattle.ji.specs.Utf8.{encode};
-ghost use Rattle.ji.specs.Text.{allAscii, lower as lowerOf};
-ghost use Rattle.ji.specs.Tone.{isTone};
-ghost use Rattle.ji.specs.Reply.{good, checkText};
-ghost use Rattle.ji.specs.Lomaji.Khin.{withoutKhin, khinIn};
-ghost use Rattle.khiin_records.specs.Syllable.{Syllable, raw, toneDigit, khinKey, candidatesOf, recordReply};
-ghost use Rattle.khiin_records.specs.RawBytes.{bodyOf};
-ghost use Rattle.khiin_records.specs.Alignment.{sharedPrefix, nearestOf, alignedWith, alignOf, alignCall};
+ghost use Rattle.ji.specs.Text.{all_ascii, lower as lower_of};
+ghost use Rattle.ji.specs.Tone.{is_tone};
+ghost use Rattle.ji.specs.Reply.{good, check_text};
+ghost use Rattle.ji.specs.Lomaji.Khin.{without_khin, khin_in};
+ghost use Rattle.khiin_records.specs.Syllable.{Syllable, raw, tone_digit, khin_key, candidates_of, record_reply};
+ghost use Rattle.khiin_records.specs.RawBytes.{body_of};
+ghost use Rattle.khiin_records.specs.Alignment.{shared_prefix, nearest_of, aligned_with, align_of, align_call};
 ghost use Rattle.khiin_records.specs.Prefixes.{NearestPrefix};
 
 use crate::Recorded;
@@ -25,7 +25,7 @@ use ji::{tone, unicode};
 
 // Whether two bytes are the same, ASCII case ignored. Most that are compared are the very same.
 fn same_key(a: u8, b: u8) -> bool
-    ensures { result ≡ eqb (lowerOf a) (lowerOf b) }
+    ensures { result ≡ eqb (lower_of a) (lower_of b) }
 {
     if a == b {
         return true;
@@ -35,7 +35,7 @@ fn same_key(a: u8, b: u8) -> bool
 
 // How many keys the keys and a raw input share at their beginning, ASCII case ignored.
 fn shared_prefix(keys: &[u8], s: &[u8]) -> usize
-    ensures { result ≡ sharedPrefix keys.now s.now }
+    ensures { result ≡ shared_prefix keys.now s.now }
 {
     let mut i: usize = 0;
     while i < keys.len() {
@@ -60,8 +60,8 @@ fn candidate_prefix(
     khin: Khin,
     letters: &mut [u8],
 ) -> usize
-    requires { (isTone tone ≡ true) × (length s.now + 2 ≤ length letters.old) }
-    ensures { result ≡ sharedPrefix keys.now ((bodyOf vowel s.now).text ++ (toneDigit tone ++ khinKey khin)) }
+    requires { (is_tone tone ≡ true) × (length s.now + 2 ≤ length letters.old) }
+    ensures { result ≡ shared_prefix keys.now ((body_of vowel s.now).text ++ (tone_digit tone ++ khin_key khin)) }
 {
     let spelled = spell(s, vowel, letters);
     let body = spelled.len;
@@ -78,7 +78,7 @@ fn takes_later(earlier: usize, later: usize) -> bool
 
 // How many keys are shared with the candidate that shares most: the one with u or, where U+0358 occurs, the one with o. `letters` is used up.
 fn spelled_prefix(keys: &[u8], s: &[u8], tone: Tone, khin: Khin, letters: &mut [u8]) -> usize
-    requires { (isTone tone ≡ true) × (allAscii keys.now ≡ true) × (length s.now + 2 ≤ length letters.old) }
+    requires { (is_tone tone ≡ true) × (all_ascii keys.now ≡ true) × (length s.now + 2 ≤ length letters.old) }
     ensures { NearestPrefix keys.now s.now tone khin result }
 {
     let earlier = candidate_prefix(keys, s, 0x75, tone, khin, letters);
@@ -93,7 +93,7 @@ fn spelled_prefix(keys: &[u8], s: &[u8], tone: Tone, khin: Khin, letters: &mut [
 
 // Of a text of at most 40 bytes: clearing a small buffer is quicker.
 fn spelled_short(keys: &[u8], s: &[u8], tone: Tone, khin: Khin) -> usize
-    requires { (isTone tone ≡ true) × (allAscii keys.now ≡ true) × (length s.now ≤ 40) }
+    requires { (is_tone tone ≡ true) × (all_ascii keys.now ≡ true) × (length s.now ≤ 40) }
     ensures { NearestPrefix keys.now s.now tone khin result }
 {
     let mut letters = [0u8; 42];
@@ -102,7 +102,7 @@ fn spelled_short(keys: &[u8], s: &[u8], tone: Tone, khin: Khin) -> usize
 
 // Of a text of at most 640 bytes.
 fn spelled_long(keys: &[u8], s: &[u8], tone: Tone, khin: Khin) -> usize
-    requires { (isTone tone ≡ true) × (allAscii keys.now ≡ true) × (length s.now ≤ 640) }
+    requires { (is_tone tone ≡ true) × (all_ascii keys.now ≡ true) × (length s.now ≤ 640) }
     ensures { NearestPrefix keys.now s.now tone khin result }
 {
     let mut letters = [0u8; 642];
@@ -111,7 +111,7 @@ fn spelled_long(keys: &[u8], s: &[u8], tone: Tone, khin: Khin) -> usize
 
 // Whether the key at `at` is the byte `x` of a raw input: whether the prefix goes on there.
 fn is_key_at(keys: &[u8], at: usize, x: u8) -> bool
-    ensures { (s : List ℕ) → sharedPrefix (drop at keys.now) (x ∷ s) ≡ pickNumber result (suc (sharedPrefix (drop (at + 1) keys.now) s)) 0 }
+    ensures { (s : List ℕ) → shared_prefix (drop at keys.now) (x ∷ s) ≡ pick_number result (suc (shared_prefix (drop (at + 1) keys.now) s)) 0 }
 {
     if at < keys.len() {
         return same_key(keys[at], x);
@@ -121,7 +121,7 @@ fn is_key_at(keys: &[u8], at: usize, x: u8) -> bool
 
 // How many of the keys from `at` on are shared with the 0 for khin.
 fn khin_prefix(keys: &[u8], at: usize, khin: Khin) -> usize
-    ensures { (result ≡ sharedPrefix (drop at keys.now) (khinKey khin)) × (result ≤ 1) }
+    ensures { (result ≡ shared_prefix (drop at keys.now) (khin_key khin)) × (result ≤ 1) }
 {
     match khin {
         Khin::No => 0,
@@ -131,8 +131,8 @@ fn khin_prefix(keys: &[u8], at: usize, khin: Khin) -> usize
 
 // How many of the keys from `at` on are shared with the tone digit and the 0 for khin.
 fn digits_prefix(keys: &[u8], at: usize, tone: Tone, khin: Khin) -> usize
-    requires { (isTone tone ≡ true) × (at ≤ length keys.now) }
-    ensures { result ≡ sharedPrefix (drop at keys.now) (toneDigit tone ++ khinKey khin) }
+    requires { (is_tone tone ≡ true) × (at ≤ length keys.now) }
+    ensures { result ≡ shared_prefix (drop at keys.now) (tone_digit tone ++ khin_key khin) }
 {
     if is_key_at(keys, at, 48 + tone::number(tone) as u8) {
         1 + khin_prefix(keys, at + 1, khin)
@@ -143,7 +143,7 @@ fn digits_prefix(keys: &[u8], at: usize, tone: Tone, khin: Khin) -> usize
 
 // The same of an ASCII text, which is the body of its one candidate: nothing is spelled, and nothing copied.
 fn plain_prefix(keys: &[u8], s: &[u8], tone: Tone, khin: Khin) -> usize
-    requires { (isTone tone ≡ true) × (allAscii keys.now ≡ true) × (allAscii s.now ≡ true) }
+    requires { (is_tone tone ≡ true) × (all_ascii keys.now ≡ true) × (all_ascii s.now ≡ true) }
     ensures { NearestPrefix keys.now s.now tone khin result }
 {
     let body = shared_prefix(keys, s);
@@ -155,7 +155,7 @@ fn plain_prefix(keys: &[u8], s: &[u8], tone: Tone, khin: Khin) -> usize
 
 // The same of any text.
 fn nearest_prefix(keys: &[u8], s: &[u8], tone: Tone, khin: Khin) -> usize
-    requires { (isTone tone ≡ true) × (allAscii keys.now ≡ true) × (length s.now ≤ 640) }
+    requires { (is_tone tone ≡ true) × (all_ascii keys.now ≡ true) × (length s.now ≤ 640) }
     ensures { NearestPrefix keys.now s.now tone khin result }
 {
     if unicode::is_ascii(s) {
@@ -169,8 +169,8 @@ fn nearest_prefix(keys: &[u8], s: &[u8], tone: Tone, khin: Khin) -> usize
 
 // Whether the key behind the one at the prefix's end is the tone's digit.
 fn tone_key_follows(keys: &[u8], prefix: usize, tone: Tone) -> bool
-    requires { (isTone tone ≡ true) × (prefix ≤ length keys.now) }
-    ensures { result ≡ same (take 1 (drop (prefix + 1) keys.now)) (toneDigit tone) }
+    requires { (is_tone tone ≡ true) × (prefix ≤ length keys.now) }
+    ensures { result ≡ same (take 1 (drop (prefix + 1) keys.now)) (tone_digit tone) }
 {
     if prefix + 1 < keys.len() {
         return keys[prefix + 1] == 48 + tone::number(tone) as u8;
@@ -180,8 +180,8 @@ fn tone_key_follows(keys: &[u8], prefix: usize, tone: Tone) -> bool
 
 // How many keys are aligned, where the nearest candidate has the tone and `prefix` keys are shared with it.
 fn aligned_keys(keys: &[u8], prefix: usize, tone: Tone) -> usize
-    requires { (isTone tone ≡ true) × (prefix ≤ length keys.now) }
-    ensures { (s : Syllable) → s.tone ≡ tone → prefix ≡ sharedPrefix keys.now (raw s) → result ≡ alignedWith keys.now s }
+    requires { (is_tone tone ≡ true) × (prefix ≤ length keys.now) }
+    ensures { (s : Syllable) → s.tone ≡ tone → prefix ≡ shared_prefix keys.now (raw s) → result ≡ aligned_with keys.now s }
 {
     if prefix == 0 {
         return 0;
@@ -194,9 +194,9 @@ fn aligned_keys(keys: &[u8], prefix: usize, tone: Tone) -> usize
 
 // How many keys are aligned with a stripped text.
 fn align_stripped(keys: &[u8], stripped: &[u8], tone: Tone) -> usize
-    requires { (isTone tone ≡ true) × (allAscii keys.now ≡ true) × (length stripped.now ≤ 640) }
+    requires { (is_tone tone ≡ true) × (all_ascii keys.now ≡ true) × (length stripped.now ≤ 640) }
     ensures { (u : List ℕ) → stripped.now ≡ encode u
-        → result ≡ alignedWith keys.now (nearestOf keys.now (candidatesOf tone (khinIn u) (withoutKhin u))) }
+        → result ≡ aligned_with keys.now (nearest_of keys.now (candidates_of tone (khin_in u) (without_khin u))) }
 {
     let khin = khin::khin_of(stripped);
     let rest = khin::strip_khin(stripped);
@@ -206,8 +206,8 @@ fn align_stripped(keys: &[u8], stripped: &[u8], tone: Tone) -> usize
 
 // The record of the keys, checked already, that are aligned with a target that is not empty. `stripped` is used up.
 fn align_in(keys: &[u8], target: &[u8], stripped: &mut [u8], out: &mut [u8]) -> Recorded
-    requires { (allAscii keys.now ≡ true) × (0 < length target.now) × (5 * length target.now ≤ 2 * length stripped.old) × (length stripped.old ≤ 640) }
-    ensures { recordReply result out.new ≡ alignOf unicode16 (good keys.now) (checkText unicode16 target.now) out.old }
+    requires { (all_ascii keys.now ≡ true) × (0 < length target.now) × (5 * length target.now ≤ 2 * length stripped.old) × (length stripped.old ≤ 640) }
+    ensures { record_reply result out.new ≡ align_of unicode16 (good keys.now) (check_text unicode16 target.now) out.old }
 {
     match strip::strip_tone_diacritic(target, stripped) {
         Strip::Refused(why) => Recorded::Refused(why),
@@ -223,8 +223,8 @@ fn align_in(keys: &[u8], target: &[u8], stripped: &mut [u8], out: &mut [u8]) -> 
 
 // A target of at most 16 bytes: clearing a small buffer is quicker.
 fn align_short(keys: &[u8], target: &[u8], out: &mut [u8]) -> Recorded
-    requires { (allAscii keys.now ≡ true) × (0 < length target.now) × (length target.now ≤ 16) }
-    ensures { recordReply result out.new ≡ alignOf unicode16 (good keys.now) (checkText unicode16 target.now) out.old }
+    requires { (all_ascii keys.now ≡ true) × (0 < length target.now) × (length target.now ≤ 16) }
+    ensures { record_reply result out.new ≡ align_of unicode16 (good keys.now) (check_text unicode16 target.now) out.old }
 {
     let mut stripped = [0u8; 40];
     align_in(keys, target, &mut stripped, out)
@@ -232,8 +232,8 @@ fn align_short(keys: &[u8], target: &[u8], out: &mut [u8]) -> Recorded
 
 // A target of at most 256 bytes.
 fn align_long(keys: &[u8], target: &[u8], out: &mut [u8]) -> Recorded
-    requires { (allAscii keys.now ≡ true) × (0 < length target.now) × (length target.now ≤ 256) }
-    ensures { recordReply result out.new ≡ alignOf unicode16 (good keys.now) (checkText unicode16 target.now) out.old }
+    requires { (all_ascii keys.now ≡ true) × (0 < length target.now) × (length target.now ≤ 256) }
+    ensures { record_reply result out.new ≡ align_of unicode16 (good keys.now) (check_text unicode16 target.now) out.old }
 {
     let mut stripped = [0u8; 640];
     align_in(keys, target, &mut stripped, out)
@@ -241,8 +241,8 @@ fn align_long(keys: &[u8], target: &[u8], out: &mut [u8]) -> Recorded
 
 // The record of the keys, checked already, that are aligned with a target. With the empty target, whose one candidate is the default, that is none.
 fn align(keys: &[u8], target: &[u8], out: &mut [u8]) -> Recorded
-    requires { allAscii keys.now ≡ true }
-    ensures { recordReply result out.new ≡ alignOf unicode16 (good keys.now) (checkText unicode16 target.now) out.old }
+    requires { all_ascii keys.now ≡ true }
+    ensures { record_reply result out.new ≡ align_of unicode16 (good keys.now) (check_text unicode16 target.now) out.old }
 {
     if target.len() == 0 {
         place_keys(&keys[0..0], out)
@@ -257,7 +257,7 @@ fn align(keys: &[u8], target: &[u8], out: &mut [u8]) -> Recorded
 
 // The record of the keys that were typed for the syllable `target`, which stand in `out`: no keys where there is no alignment.
 pub fn from_conversion_alignment(keys: &[u8], target: &[u8], out: &mut [u8]) -> Recorded
-    ensures { recordReply result out.new ≡ alignCall unicode16 keys.now target.now out.old }
+    ensures { record_reply result out.new ≡ align_call unicode16 keys.now target.now out.old }
 {
     if 256 < keys.len() {
         Recorded::Refused(Refusal::TooLong)

@@ -4,13 +4,13 @@ ghost use Rattle.std.proofs.Math.Seq.{paste};
 ghost use Rattle.ji.specs.Unicode.{unicode16, listed, members};
 ghost use Rattle.ji.specs.Utf8.{encode};
 ghost use Rattle.ji.specs.Text.{begins};
-ghost use Rattle.ji.specs.Tone.{isTone};
+ghost use Rattle.ji.specs.Tone.{is_tone};
 ghost use Rattle.ji.specs.Written.{Written};
-ghost use Rattle.ji.specs.Lomaji.Dot.{dotIn};
-ghost use Rattle.ji.specs.Lomaji.Khin.{withoutKhin, khinIn};
+ghost use Rattle.ji.specs.Lomaji.Dot.{dot_in};
+ghost use Rattle.ji.specs.Lomaji.Khin.{without_khin, khin_in};
 ghost use Rattle.ji.specs.Lomaji.Keys.{respell};
-ghost use Rattle.khiin_records.specs.Syllable.{raw, default, belowRules, signRules, toneDigit, khinKey, candidate, candidatesOf, placedRecord, candidateIn, candidateCall, recordReply};
-ghost use Rattle.khiin_records.specs.RawBytes.{takesBelow, first_of, second_of, nasal, below, bodyOf, count_of, vowelAt, byteBefore, Walking};
+ghost use Rattle.khiin_records.specs.Syllable.{raw, default, below_rules, sign_rules, tone_digit, khin_key, candidate, candidates_of, placed_record, candidate_in, candidate_call, record_reply};
+ghost use Rattle.khiin_records.specs.RawBytes.{takes_below, first_of, second_of, nasal, below, body_of, count_of, vowel_at, byte_before, Walking};
 
 use crate::{Record, Recorded};
 use ji::lomaji::dot::holds_dot;
@@ -39,7 +39,7 @@ pub(crate) fn contains(s: &[u16], x: u16) -> bool
 
 // Writes u, U, o and O with U+0324 as eu, Eu, eo and Eo. Letters by number: 45 E, 4F O, 55 U, 65 e, 6F o, 75 u. Few texts hold U+0324.
 fn spell_below(s: &mut [u16])
-    ensures { s.new ≡ respell belowRules s.old }
+    ensures { s.new ≡ respell below_rules s.old }
 {
     if contains(s, 0x324) {
         replace_pair(s, 0x75, 0x324, 0x65, 0x75);
@@ -52,7 +52,7 @@ fn spell_below(s: &mut [u16])
 // Writes `s` with `vowel` for U+0358 and nn for U+207F to the front of `out`, and returns its length.
 fn spell_signs(s: &[u16], vowel: u16, out: &mut [u16]) -> usize
     requires { (vowel < 0x80) × (2 * length s.now ≤ length out.old) }
-    ensures { Written out.old out.new result (respell (signRules (vowel ∷ [])) s.now) }
+    ensures { Written out.old out.new result (respell (sign_rules (vowel ∷ [])) s.now) }
 {
     let mut i: usize = 0;
     let mut n: usize = 0;
@@ -76,8 +76,8 @@ fn spell_signs(s: &[u16], vowel: u16, out: &mut [u16]) -> usize
 
 // Writes the tone digit at `at`, and returns the place behind it.
 fn put_digit(tone: Tone, out: &mut [u16], at: usize) -> usize
-    requires { at + length (toneDigit tone) ≤ length out.old }
-    ensures { (result ≡ at + length (toneDigit tone)) × (out.new ≡ paste out.old at (toneDigit tone) (length (toneDigit tone))) }
+    requires { at + length (tone_digit tone) ≤ length out.old }
+    ensures { (result ≡ at + length (tone_digit tone)) × (out.new ≡ paste out.old at (tone_digit tone) (length (tone_digit tone))) }
 {
     if tone::is_tone(tone) {
         out[at] = 48 + tone::number(tone) as u16;
@@ -88,8 +88,8 @@ fn put_digit(tone: Tone, out: &mut [u16], at: usize) -> usize
 
 // Writes 0 for khin at `at`, and returns the place behind it.
 fn put_khin(khin: Khin, out: &mut [u16], at: usize) -> usize
-    requires { at + length (khinKey khin) ≤ length out.old }
-    ensures { (result ≡ at + length (khinKey khin)) × (out.new ≡ paste out.old at (khinKey khin) (length (khinKey khin))) }
+    requires { at + length (khin_key khin) ≤ length out.old }
+    ensures { (result ≡ at + length (khin_key khin)) × (out.new ≡ paste out.old at (khin_key khin) (length (khin_key khin))) }
 {
     match khin {
         Khin::No => at,
@@ -114,7 +114,7 @@ fn write_raw(s: &mut [u16], vowel: u16, tone: Tone, khin: Khin, letters: &mut [u
 
 // How many keys stand behind the body: the tone digit, and 0 for khin.
 fn key_count(tone: Tone, khin: Khin) -> usize
-    ensures { result ≡ length (toneDigit tone ++ khinKey khin) }
+    ensures { result ≡ length (tone_digit tone ++ khin_key khin) }
 {
     if tone::is_tone(tone) {
         return 1 + khin::number(khin) as usize;
@@ -133,7 +133,7 @@ fn place_candidate(
     out: &mut [u8],
 ) -> Recorded
     requires { (vowel < 0x80) × (2 * length s.old + 2 ≤ length letters.old) }
-    ensures { recordReply result out.new ≡ placedRecord count (candidate tone khin s.old (vowel ∷ [])) out.old }
+    ensures { record_reply result out.new ≡ placed_record count (candidate tone khin s.old (vowel ∷ [])) out.old }
 {
     let n = write_raw(s, vowel, tone, khin, letters);
     let keys = key_count(tone, khin);
@@ -162,7 +162,7 @@ fn choose(
     out: &mut [u8],
 ) -> Recorded
     requires { 2 * length s.old + 2 ≤ length letters.old }
-    ensures { recordReply result out.new ≡ candidateIn (candidatesOf tone khin s.old) position out.old }
+    ensures { record_reply result out.new ≡ candidate_in (candidates_of tone khin s.old) position out.old }
 {
     if contains(s, 0x358) {
         if position == 0 {
@@ -190,7 +190,7 @@ fn candidate_of(
 ) -> Recorded
     requires { (length stripped.now ≤ length points.old) × (2 * length points.old + 2 ≤ length letters.old) }
     ensures { (u : List ℕ) → members unicode16 u ≡ true → stripped.now ≡ encode u
-        → recordReply result out.new ≡ candidateIn (candidatesOf tone (khinIn u) (withoutKhin u)) position out.old }
+        → record_reply result out.new ≡ candidate_in (candidates_of tone (khin_in u) (without_khin u)) position out.old }
 {
     let khin = khin::khin_of(stripped);
     let rest = khin::strip_khin(stripped);
@@ -207,7 +207,7 @@ fn candidate_of(
 fn candidate_points(stripped: &[u8], tone: Tone, position: u64, out: &mut [u8]) -> Recorded
     requires { length stripped.now ≤ 640 }
     ensures { (u : List ℕ) → members unicode16 u ≡ true → stripped.now ≡ encode u
-        → recordReply result out.new ≡ candidateIn (candidatesOf tone (khinIn u) (withoutKhin u)) position out.old }
+        → record_reply result out.new ≡ candidate_in (candidates_of tone (khin_in u) (without_khin u)) position out.old }
 {
     let mut points = [0u16; 640];
     let mut letters = [0u16; 1282];
@@ -216,7 +216,7 @@ fn candidate_points(stripped: &[u8], tone: Tone, position: u64, out: &mut [u8]) 
 
 // The one candidate of the empty text: the default.
 fn default_at(position: u64, out: &mut [u8]) -> Recorded
-    ensures { recordReply result out.new ≡ candidateIn (default ∷ []) position out.old }
+    ensures { record_reply result out.new ≡ candidate_in (default ∷ []) position out.old }
 {
     if position == 0 {
         return Recorded::Done(Record {
@@ -261,7 +261,7 @@ fn is_nasal(s: &[u8], at: usize) -> bool
 
 // The letters that U+0324 changes: O, U, o, u.
 fn takes_below(x: u8) -> bool
-    ensures { result ≡ takesBelow x }
+    ensures { result ≡ takes_below x }
 {
     match x {
         0x4F | 0x55 | 0x6F | 0x75 => true,
@@ -292,7 +292,7 @@ fn second_of(x: u8) -> u8
 // Whether U+0324 stands at `at`, behind such a letter.
 fn is_below(s: &[u8], at: usize) -> bool
     requires { at < length s.now }
-    ensures { result ≡ (begins below (drop at s.now) && takesBelow (byteBefore s.now at)) }
+    ensures { result ≡ (begins below (drop at s.now) && takes_below (byte_before s.now at)) }
 {
     if is_pair(s, at, 0xCC, 0xA4) {
         if 0 < at {
@@ -330,8 +330,8 @@ fn copy_ascii(s: &[u8], out: &mut [u8]) -> usize
 // Goes on from `start`, where all before is copied. U+0324 takes back the letter that was written before it.
 fn spell_rest(s: &[u8], start: usize, vowel: u8, out: &mut [u8]) -> Spelled
     requires { (length s.now ≤ length out.old) × Walking vowel s.now out.old out.old start start 1 }
-    ensures { (start ≤ result.len) × Written out.old out.new result.len (bodyOf vowel s.now).text × (result.len ≤ length s.now)
-        × (result.count ≡ count_of (bodyOf vowel s.now).dotted) }
+    ensures { (start ≤ result.len) × Written out.old out.new result.len (body_of vowel s.now).text × (result.len ≤ length s.now)
+        × (result.count ≡ count_of (body_of vowel s.now).dotted) }
 {
     let mut i: usize = start;
     let mut n: usize = start;
@@ -368,8 +368,8 @@ fn spell_rest(s: &[u8], start: usize, vowel: u8, out: &mut [u8]) -> Spelled
 // Writes the body of the candidate that has `vowel` for U+0358 to the front of `out`.
 pub(crate) fn spell(s: &[u8], vowel: u8, out: &mut [u8]) -> Spelled
     requires { length s.now ≤ length out.old }
-    ensures { Written out.old out.new result.len (bodyOf vowel s.now).text × (result.len ≤ length s.now)
-        × (result.count ≡ count_of (bodyOf vowel s.now).dotted) }
+    ensures { Written out.old out.new result.len (body_of vowel s.now).text × (result.len ≤ length s.now)
+        × (result.count ≡ count_of (body_of vowel s.now).dotted) }
 {
     let start = copy_ascii(s, out);
     spell_rest(s, start, vowel, out)
@@ -377,8 +377,8 @@ pub(crate) fn spell(s: &[u8], vowel: u8, out: &mut [u8]) -> Spelled
 
 // Writes the tone digit and 0 for khin at `at`, and returns the place behind them.
 pub(crate) fn put_keys(tone: Tone, khin: Khin, out: &mut [u8], at: usize) -> usize
-    requires { (isTone tone ≡ true) × (at + 2 ≤ length out.old) }
-    ensures { (result ≡ at + length (toneDigit tone ++ khinKey khin)) × (out.new ≡ paste out.old at (toneDigit tone ++ khinKey khin) (length (toneDigit tone ++ khinKey khin))) }
+    requires { (is_tone tone ≡ true) × (at + 2 ≤ length out.old) }
+    ensures { (result ≡ at + length (tone_digit tone ++ khin_key khin)) × (out.new ≡ paste out.old at (tone_digit tone ++ khin_key khin) (length (tone_digit tone ++ khin_key khin))) }
 {
     out[at] = 48 + tone::number(tone) as u8;
     match khin {
@@ -392,7 +392,7 @@ pub(crate) fn put_keys(tone: Tone, khin: Khin, out: &mut [u8], at: usize) -> usi
 
 // The vowel for U+0358 of the candidate at the position, 0 where there is none: the second one needs U+0358.
 fn vowel_at(s: &[u8], position: u64) -> u8
-    ensures { result ≡ vowelAt (dotIn s.now) position }
+    ensures { result ≡ vowel_at (dot_in s.now) position }
 {
     if position == 0 {
         return 0x75;
@@ -408,9 +408,9 @@ fn vowel_at(s: &[u8], position: u64) -> u8
 // The candidate at the position of a stripped text behind khin, from its bytes. One `if` with both answers: two returns would send the record
 // through memory.
 fn write_candidate(s: &[u8], tone: Tone, khin: Khin, position: u64, out: &mut [u8]) -> Recorded
-    requires { (isTone tone ≡ true) × (length s.now + 2 ≤ length out.old) }
+    requires { (is_tone tone ≡ true) × (length s.now + 2 ≤ length out.old) }
     ensures { (u : List ℕ) → s.now ≡ encode u
-        → recordReply result out.new ≡ candidateIn (candidatesOf tone khin u) position out.old }
+        → record_reply result out.new ≡ candidate_in (candidates_of tone khin u) position out.old }
 {
     let vowel = vowel_at(s, position);
     if vowel == 0 {
@@ -432,9 +432,9 @@ fn write_candidate(s: &[u8], tone: Tone, khin: Khin, position: u64, out: &mut [u
 
 // The candidate at the position of a stripped text, from its bytes.
 fn candidate_bytes(stripped: &[u8], tone: Tone, position: u64, out: &mut [u8]) -> Recorded
-    requires { (isTone tone ≡ true) × (length stripped.now + 2 ≤ length out.old) }
+    requires { (is_tone tone ≡ true) × (length stripped.now + 2 ≤ length out.old) }
     ensures { (u : List ℕ) → stripped.now ≡ encode u
-        → recordReply result out.new ≡ candidateIn (candidatesOf tone (khinIn u) (withoutKhin u)) position out.old }
+        → record_reply result out.new ≡ candidate_in (candidates_of tone (khin_in u) (without_khin u)) position out.old }
 {
     let khin = khin::khin_of(stripped);
     let rest = khin::strip_khin(stripped);
@@ -444,7 +444,7 @@ fn candidate_bytes(stripped: &[u8], tone: Tone, position: u64, out: &mut [u8]) -
 // The candidate at the position of a text that is not empty. That there is room is known before the text is stripped.
 fn quick_in(text: &[u8], stripped: &mut [u8], position: u64, out: &mut [u8]) -> Recorded
     requires { (0 < length text.now) × (5 * length text.now ≤ 2 * length stripped.old) × (3 * length text.now < length out.old) }
-    ensures { recordReply result out.new ≡ candidateCall unicode16 text.now position out.old }
+    ensures { record_reply result out.new ≡ candidate_call unicode16 text.now position out.old }
 {
     match strip::strip_tone_diacritic(text, stripped) {
         Strip::Refused(why) => Recorded::Refused(why),
@@ -460,7 +460,7 @@ fn quick_in(text: &[u8], stripped: &mut [u8], position: u64, out: &mut [u8]) -> 
 // A text of at most 16 bytes.
 fn candidate_quick(text: &[u8], position: u64, out: &mut [u8]) -> Recorded
     requires { (0 < length text.now) × (length text.now ≤ 16) × (3 * length text.now < length out.old) }
-    ensures { recordReply result out.new ≡ candidateCall unicode16 text.now position out.old }
+    ensures { record_reply result out.new ≡ candidate_call unicode16 text.now position out.old }
 {
     let mut stripped = [0u8; 40];
     quick_in(text, &mut stripped, position, out)
@@ -468,9 +468,9 @@ fn candidate_quick(text: &[u8], position: u64, out: &mut [u8]) -> Recorded
 
 // The candidate at the position of a stripped text: by the quick way where its raw input has room in any case, else by the plain one.
 fn candidate_stripped(stripped: &[u8], tone: Tone, position: u64, out: &mut [u8]) -> Recorded
-    requires { (isTone tone ≡ true) × (length stripped.now ≤ 640) }
+    requires { (is_tone tone ≡ true) × (length stripped.now ≤ 640) }
     ensures { (u : List ℕ) → members unicode16 u ≡ true → stripped.now ≡ encode u
-        → recordReply result out.new ≡ candidateIn (candidatesOf tone (khinIn u) (withoutKhin u)) position out.old }
+        → record_reply result out.new ≡ candidate_in (candidates_of tone (khin_in u) (without_khin u)) position out.old }
 {
     if stripped.len() + 2 <= out.len() {
         return candidate_bytes(stripped, tone, position, out);
@@ -481,7 +481,7 @@ fn candidate_stripped(stripped: &[u8], tone: Tone, position: u64, out: &mut [u8]
 // The candidate at the position of a text that is not empty.
 fn candidate_in(text: &[u8], stripped: &mut [u8], position: u64, out: &mut [u8]) -> Recorded
     requires { (0 < length text.now) × (5 * length text.now ≤ 2 * length stripped.old) × (length stripped.old ≤ 640) }
-    ensures { recordReply result out.new ≡ candidateCall unicode16 text.now position out.old }
+    ensures { record_reply result out.new ≡ candidate_call unicode16 text.now position out.old }
 {
     match strip::strip_tone_diacritic(text, stripped) {
         Strip::Refused(why) => Recorded::Refused(why),
@@ -497,7 +497,7 @@ fn candidate_in(text: &[u8], stripped: &mut [u8], position: u64, out: &mut [u8])
 // A text of at most 16 bytes: clearing a small buffer is quicker.
 fn candidate_short(text: &[u8], position: u64, out: &mut [u8]) -> Recorded
     requires { (0 < length text.now) × (length text.now ≤ 16) }
-    ensures { recordReply result out.new ≡ candidateCall unicode16 text.now position out.old }
+    ensures { record_reply result out.new ≡ candidate_call unicode16 text.now position out.old }
 {
     let mut stripped = [0u8; 40];
     candidate_in(text, &mut stripped, position, out)
@@ -506,7 +506,7 @@ fn candidate_short(text: &[u8], position: u64, out: &mut [u8]) -> Recorded
 // A text of at most 256 bytes.
 fn candidate_long(text: &[u8], position: u64, out: &mut [u8]) -> Recorded
     requires { (0 < length text.now) × (length text.now ≤ 256) }
-    ensures { recordReply result out.new ≡ candidateCall unicode16 text.now position out.old }
+    ensures { record_reply result out.new ≡ candidate_call unicode16 text.now position out.old }
 {
     let mut stripped = [0u8; 640];
     candidate_in(text, &mut stripped, position, out)
@@ -514,7 +514,7 @@ fn candidate_long(text: &[u8], position: u64, out: &mut [u8]) -> Recorded
 
 // Any text, in a buffer of the size that it needs.
 fn candidate_any(text: &[u8], position: u64, out: &mut [u8]) -> Recorded
-    ensures { recordReply result out.new ≡ candidateCall unicode16 text.now position out.old }
+    ensures { record_reply result out.new ≡ candidate_call unicode16 text.now position out.old }
 {
     if text.len() == 0 {
         return default_at(position, out);
@@ -553,7 +553,7 @@ fn is_quick(len: usize, room: usize) -> bool
 
 // The candidate at the position, whose raw input stands in `out`, and how many there are.
 pub fn from_composed(text: &[u8], position: u64, out: &mut [u8]) -> Recorded
-    ensures { recordReply result out.new ≡ candidateCall unicode16 text.now position out.old }
+    ensures { record_reply result out.new ≡ candidate_call unicode16 text.now position out.old }
 {
     if is_quick(text.len(), out.len()) {
         candidate_quick(text, position, out)

@@ -1,7 +1,7 @@
 // `from_raw`: the record of keys that were typed.
 ghost use Rattle.std.specs.Prelude.{◌≡◌, true, length};
-ghost use Rattle.ji.specs.Text.{allAscii, last};
-ghost use Rattle.khiin_records.specs.Syllable.{keyTone, fromRaw, placedRecord, fromRawCall, recordReply};
+ghost use Rattle.ji.specs.Text.{all_ascii, last};
+ghost use Rattle.khiin_records.specs.Syllable.{key_tone, from_raw, placed_record, from_raw_call, record_reply};
 ghost use Rattle.khiin_records.specs.Records.{RecordOf};
 
 use crate::{Record, Recorded};
@@ -13,7 +13,7 @@ use ji::{reply, tone, unicode};
 
 // The tone that a key is, None of any key but 1 to 9.
 fn key_tone(key: u8) -> Tone
-    ensures { result ≡ keyTone key }
+    ensures { result ≡ key_tone key }
 {
     match key {
         b'1' => Tone::T1,
@@ -42,7 +42,7 @@ fn last_key(s: &[u8]) -> u8
 
 // The record of the keys `s`, which are ASCII. The last one is the tone and leaves the body, where it is one of 1 to 9.
 fn record_of(s: &[u8]) -> Record
-    ensures { allAscii s.now ≡ true → RecordOf 0 (fromRaw s.now) (length s.now) result }
+    ensures { all_ascii s.now ≡ true → RecordOf 0 (from_raw s.now) (length s.now) result }
 {
     let n = s.len();
     let tone = key_tone(last_key(s));
@@ -66,7 +66,7 @@ fn record_of(s: &[u8]) -> Record
 
 // The record of keys that are ASCII, which are its raw input, in `out`.
 pub(crate) fn place_keys(keys: &[u8], out: &mut [u8]) -> Recorded
-    ensures { allAscii keys.now ≡ true → recordReply result out.new ≡ placedRecord 0 (fromRaw keys.now) out.old }
+    ensures { all_ascii keys.now ≡ true → record_reply result out.new ≡ placed_record 0 (from_raw keys.now) out.old }
 {
     match reply::place_bytes(keys, out) {
         TextAnswer::Refused(why) => Recorded::Refused(why),
@@ -76,7 +76,7 @@ pub(crate) fn place_keys(keys: &[u8], out: &mut [u8]) -> Recorded
 
 // The record of `keys`.
 pub fn from_raw(keys: &[u8], out: &mut [u8]) -> Recorded
-    ensures { recordReply result out.new ≡ fromRawCall keys.now out.old }
+    ensures { record_reply result out.new ≡ from_raw_call keys.now out.old }
 {
     if 256 < keys.len() {
         return Recorded::Refused(Refusal::TooLong);

@@ -1,15 +1,15 @@
 -- Blocks of lines: each has no more lines than are left, and starts where the one before it ends.
 use Rattle.std.proofs.Common.{Option, Some, None, IfSome, option_map, ◌≡◌, ℕ, ◌+◌, ◌-◌, ◌≤◌, List, [], ◌++◌, length, take, drop, sym, ap, ◌∙◌, arith, length-drop, take-append-drop, take-add, append-nil}
 use Rattle.ji.specs.Unicode.{unicode16}
-use Rattle.khiin_entries.specs.Listing.{listing, together, fitting, goingIn, shown}
-use Rattle.khiin_entries.proofs.listing.Fitting.{together-append, fit-most, going-count}
-use Rattle.lister.proofs.Short.{short-drop, listing-short, none-left}
+use Rattle.khiin_entries.specs.Listing.{listing, together, fitting, going_in, shown}
+use Rattle.khiin_entries.proofs.listing.Fitting.{together_append, fit_most, going_count}
+use Rattle.lister.proofs.Short.{short_drop, listing_short, none_left}
 
-pub next-inside : (entry : List ℕ) (from room next : ℕ) → next ≡ from + length (shown unicode16 entry from room) → (from ≤ next) × (next ≤ from + (length (listing unicode16 entry) - from))
+pub next_inside : (entry : List ℕ) (from room next : ℕ) → next ≡ from + length (shown unicode16 entry from room) → (from ≤ next) × (next ≤ from + (length (listing unicode16 entry) - from))
 unfolding shown
-next-inside entry from room next e =
+next_inside entry from room next e =
     let left = drop from (listing unicode16 entry) in
-    (omega arith, omega (arith, e, going-count left room, fit-most left room, length-drop from (listing unicode16 entry)))
+    (omega arith, omega (arith, e, going_count left room, fit_most left room, length-drop from (listing unicode16 entry)))
 
 module _ (entry : List ℕ) where
   abbrev ls : List (List ℕ)
@@ -20,18 +20,18 @@ module _ (entry : List ℕ) where
   next_sized from next size room s e = e ∙ ap (λ (n : ℕ). from + length (shown unicode16 entry from n)) s
 
   -- the lines of a block, behind those that were printed before it
-  pub printed-further : (from room next : ℕ) → next ≡ from + length (shown unicode16 entry from room) → together (take from ls) ++ together (shown unicode16 entry from room) ≡ together (take next ls)
-  unfolding shown goingIn
-  printed-further from room next e =
+  pub printed_further : (from room next : ℕ) → next ≡ from + length (shown unicode16 entry from room) → together (take from ls) ++ together (shown unicode16 entry from room) ≡ together (take next ls)
+  unfolding shown going_in
+  printed_further from room next e =
       let k = fitting (drop from ls) room in
-      let n : next ≡ from + k = e ∙ ap (λ (m : ℕ). from + m) (going-count (drop from ls) room) in
-      sym (ap (λ (m : ℕ). together (take m ls)) n ∙ ap together (take-add from k ls) ∙ together-append (take from ls) (take k (drop from ls)))
+      let n : next ≡ from + k = e ∙ ap (λ (m : ℕ). from + m) (going_count (drop from ls) room) in
+      sym (ap (λ (m : ℕ). together (take m ls)) n ∙ ap together (take-add from k ls) ∙ together_append (take from ls) (take k (drop from ls)))
 
   -- where a block has no line, all were printed
-  pub printed-all : (from next : ℕ) → next ≡ from + length (shown unicode16 entry from 65536) → next ≤ from → together (take next ls) ≡ together ls
+  pub printed_all : (from next : ℕ) → next ≡ from + length (shown unicode16 entry from 65536) → next ≤ from → together (take next ls) ≡ together ls
   unfolding shown
-  printed-all from next e h =
-      let none : drop from ls ≡ [] = none-left (drop from ls) 65536 (short-drop 65536 from ls (listing-short entry)) (omega (arith, e, going-count (drop from ls) 65536)) in
+  printed_all from next e h =
+      let none : drop from ls ≡ [] = none_left (drop from ls) 65536 (short_drop 65536 from ls (listing_short entry)) (omega (arith, e, going_count (drop from ls) 65536)) in
       let last : next ≡ from = omega arith in
       ap (λ (m : ℕ). together (take m ls)) last
       ∙ ap together (sym (append-nil (take from ls)) ∙ ap (λ (l : List (List ℕ)). take from ls ++ l) (sym none) ∙ take-append-drop from ls)

@@ -10,7 +10,7 @@ ghost use Rattle.std.specs.Io.KnownBytes.{Appends};
 ghost use Rattle.std.specs.Process.{exit_status};
 ghost use Rattle.ji.specs.Unicode.{unicode16};
 ghost use Rattle.khiin_entries.specs.Listing.{listing, shown, together};
-ghost use Rattle.lister.specs.Text.{withoutNewline, entryIn, printed};
+ghost use Rattle.lister.specs.Text.{without_newline, entry_in, printed};
 
 use khiin_entries::listing;
 use std::alloc::Global;
@@ -39,7 +39,7 @@ impl fmt::Display for Failure {
 
 // The text without one final newline.
 fn without_newline(text: &[u8]) -> &[u8]
-    ensures { result.now ≡ withoutNewline text.now }
+    ensures { result.now ≡ without_newline text.now }
 {
     let n = text.len();
     if n == 0 {
@@ -99,7 +99,7 @@ pub fn list_entry<R: Read + Drop, W: Write>(
     writer: &mut W,
     alloc: Global,
 ) -> Result<(), Failure>
-    ensures { OnOk result (IfSome (R.remaining reader) (λ input. Appends (W.contents writer.old) (W.contents writer.new) (printed (entryIn input)))) }
+    ensures { OnOk result (IfSome (R.remaining reader) (λ input. Appends (W.contents writer.old) (W.contents writer.new) (printed (entry_in input)))) }
 {
     let text = read_text(reader, alloc).map_err(Failure::Unread)?;
     let entry = without_newline(text.as_slice());

@@ -6,35 +6,35 @@ use Rattle.ji.specs.Reply.{Reply}
 use Rattle.replay.specs.Calls.{choose}
 
 module _ (n : ℕ) (r0 r1 r2 r3 r4 r5 r6 r7 : Reply) where
-  pub choose-0 : n ≡ 0 → choose n r0 r1 r2 r3 r4 r5 r6 r7 ≡ r0
+  pub choose_0 : n ≡ 0 → choose n r0 r1 r2 r3 r4 r5 r6 r7 ≡ r0
   unfolding choose
-  choose-0 e = rw e
+  choose_0 e = rw e
 
-  pub choose-1 : n ≡ 1 → choose n r0 r1 r2 r3 r4 r5 r6 r7 ≡ r1
+  pub choose_1 : n ≡ 1 → choose n r0 r1 r2 r3 r4 r5 r6 r7 ≡ r1
   unfolding choose
-  choose-1 e = rw e
+  choose_1 e = rw e
 
-  pub choose-2 : n ≡ 2 → choose n r0 r1 r2 r3 r4 r5 r6 r7 ≡ r2
+  pub choose_2 : n ≡ 2 → choose n r0 r1 r2 r3 r4 r5 r6 r7 ≡ r2
   unfolding choose
-  choose-2 e = rw e
+  choose_2 e = rw e
 
-  pub choose-3 : n ≡ 3 → choose n r0 r1 r2 r3 r4 r5 r6 r7 ≡ r3
+  pub choose_3 : n ≡ 3 → choose n r0 r1 r2 r3 r4 r5 r6 r7 ≡ r3
   unfolding choose
-  choose-3 e = rw e
+  choose_3 e = rw e
 
-  pub choose-4 : n ≡ 4 → choose n r0 r1 r2 r3 r4 r5 r6 r7 ≡ r4
+  pub choose_4 : n ≡ 4 → choose n r0 r1 r2 r3 r4 r5 r6 r7 ≡ r4
   unfolding choose
-  choose-4 e = rw e
+  choose_4 e = rw e
 
-  pub choose-5 : n ≡ 5 → choose n r0 r1 r2 r3 r4 r5 r6 r7 ≡ r5
+  pub choose_5 : n ≡ 5 → choose n r0 r1 r2 r3 r4 r5 r6 r7 ≡ r5
   unfolding choose
-  choose-5 e = rw e
+  choose_5 e = rw e
 
-  pub choose-6 : n ≡ 6 → choose n r0 r1 r2 r3 r4 r5 r6 r7 ≡ r6
+  pub choose_6 : n ≡ 6 → choose n r0 r1 r2 r3 r4 r5 r6 r7 ≡ r6
   unfolding choose
-  choose-6 e = rw e
+  choose_6 e = rw e
 
-  pub choose-7 : (n ≡ 0 → ⊥) → (n ≡ 1 → ⊥) → (n ≡ 2 → ⊥) → (n ≡ 3 → ⊥) → (n ≡ 4 → ⊥) → (n ≡ 5 → ⊥) → (n ≡ 6 → ⊥)
+  pub choose_7 : (n ≡ 0 → ⊥) → (n ≡ 1 → ⊥) → (n ≡ 2 → ⊥) → (n ≡ 3 → ⊥) → (n ≡ 4 → ⊥) → (n ≡ 5 → ⊥) → (n ≡ 6 → ⊥)
       → choose n r0 r1 r2 r3 r4 r5 r6 r7 ≡ r7
   unfolding choose
-  choose-7 e0 e1 e2 e3 e4 e5 e6 = rw (ne_eqb n 0 e0, ne_eqb n 1 e1, ne_eqb n 2 e2, ne_eqb n 3 e3, ne_eqb n 4 e4, ne_eqb n 5 e5, ne_eqb n 6 e6)
+  choose_7 e0 e1 e2 e3 e4 e5 e6 = rw (ne_eqb n 0 e0, ne_eqb n 1 e1, ne_eqb n 2 e2, ne_eqb n 3 e3, ne_eqb n 4 e4, ne_eqb n 5 e5, ne_eqb n 6 e6)

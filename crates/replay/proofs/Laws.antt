@@ -10,57 +10,57 @@ use lib.Seq.{ext_get_or, take_all, take-append_seam, drop-append_seam}
 use borrow.Author.Tests.{eq-eqb, eqb-true}
 use Rattle.ji.specs.Reply as ji
 use Rattle.robinflint.specs.declared.reply.Reply.{Reply}
-use Rattle.robinflint.specs.Reply.{replyOf}
+use Rattle.robinflint.specs.Reply.{reply_of}
 use Rattle.replay.specs.declared.record.Header.{Header}
-use Rattle.replay.specs.Calls.{answerOf}
+use Rattle.replay.specs.Calls.{answer_of}
 use Rattle.replay.specs.Replay.{Agrees}
-use Rattle.replay.specs.Expected.{Says, untouched, written, said, sameNumbers, AsSaid}
+use Rattle.replay.specs.Expected.{Says, untouched, written, said, same_numbers, AsSaid}
 
-false-true : false ≡ true → ⊥
-false-true e = let z : ◌≡◌ {A = ℕ} 0 1 = cc in omega arith
+false_true : false ≡ true → ⊥
+false_true e = let z : ◌≡◌ {A = ℕ} 0 1 = cc in omega arith
 
-pub true-false : true ≡ false → ⊥
-true-false e = false-true (sym e)
+pub true_false : true ≡ false → ⊥
+true_false e = false_true (sym e)
 
 pub yes : {P : Type 0} → P → Says true P
 yes p = ((λ e. p), (λ q. refl))
 
 pub no : {P : Type 0} → (P → ⊥) → Says false P
-no f = ((λ e. absurd (false-true e)), (λ p. absurd (f p)))
+no f = ((λ e. absurd (false_true e)), (λ p. absurd (f p)))
 
-untouched-length : (n : ℕ) → length (untouched n) ≡ n
+untouched_length : (n : ℕ) → length (untouched n) ≡ n
 unfolding untouched
-untouched-length n = length-replicate n 0xA5
+untouched_length n = length-replicate n 0xA5
 
-untouched-at : (n i : ℕ) → i < n → get_or (untouched n) i 0 ≡ 0xA5
+untouched_at : (n i : ℕ) → i < n → get_or (untouched n) i 0 ≡ 0xA5
 unfolding untouched
-untouched-at n i h = get_or-replicate n i 0xA5 0 h
+untouched_at n i h = get_or-replicate n i 0xA5 0 h
 
-pub all-untouched : (s : List ℕ) → ((k : ℕ) → k < length s → get_or s k 0 ≡ 0xA5) → s ≡ untouched (length s)
-all-untouched s f =
-    ext_get_or 0 s (untouched (length s)) (sym (untouched-length (length s))) (λ i h. f i h ∙ sym (untouched-at (length s) i h))
+pub all_untouched : (s : List ℕ) → ((k : ℕ) → k < length s → get_or s k 0 ≡ 0xA5) → s ≡ untouched (length s)
+all_untouched s f =
+    ext_get_or 0 s (untouched (length s)) (sym (untouched_length (length s))) (λ i h. f i h ∙ sym (untouched_at (length s) i h))
 
-pub one-touched : (s : List ℕ) (i : ℕ) → i < length s → (get_or s i 0 ≡ 0xA5 → ⊥) → s ≡ untouched (length s) → ⊥
-one-touched s i h f e = f (ap (λ (l : List ℕ). get_or l i 0) e ∙ untouched-at (length s) i h)
+pub one_touched : (s : List ℕ) (i : ℕ) → i < length s → (get_or s i 0 ≡ 0xA5 → ⊥) → s ≡ untouched (length s) → ⊥
+one_touched s i h f e = f (ap (λ (l : List ℕ). get_or l i 0) e ∙ untouched_at (length s) i h)
 
 pub record Parts (h : Header) (wanted : List ℕ) (r : Reply) (buffer : List ℕ) : Type 0 where
   pub count : length wanted ≡ written h
-  pub numbers : sameNumbers (replyOf r []) (said h []) ≡ true
+  pub numbers : same_numbers (reply_of r []) (said h []) ≡ true
   pub room : length wanted ≤ length buffer
   pub front : take (length wanted) buffer ≡ wanted
   pub rest : drop (length wanted) buffer ≡ untouched (length (drop (length wanted) buffer))
 
-eqb-self : (n : ℕ) → eqb n n ≡ true
-eqb-self n = eq-eqb n n refl
+eqb_self : (n : ℕ) → eqb n n ≡ true
+eqb_self n = eq-eqb n n refl
 
-same-self : (x : ji.Reply) → sameNumbers x x ≡ true
-same-self x = simp eqb-self
+same_self : (x : ji.Reply) → same_numbers x x ≡ true
+same_self x = simp eqb_self
 
 split : (a b : Bool) → (a && b) ≡ true → (a ≡ true) × (b ≡ true)
 split true b e = (refl, e)
-split false b e = absurd (false-true e)
+split false b e = absurd (false_true e)
 
-pub parts : (h : Header) (wanted : List ℕ) (r : Reply) (buffer : List ℕ) → AsSaid h wanted (replyOf r buffer) → Parts h wanted r buffer
+pub parts : (h : Header) (wanted : List ℕ) (r : Reply) (buffer : List ℕ) → AsSaid h wanted (reply_of r buffer) → Parts h wanted r buffer
 unfolding AsSaid
 parts h wanted r buffer (n, e) =
     let b : buffer ≡ wanted ++ untouched (length buffer - length wanted) = ap (λ (x : ji.Reply). x.buffer) e in
@@ -68,14 +68,14 @@ parts h wanted r buffer (n, e) =
     let d : drop (length wanted) buffer ≡ untouched (length buffer - length wanted) = ap (drop (length wanted)) b ∙ drop-append_seam wanted (untouched (length buffer - length wanted)) in
     record {
       count = n;
-      numbers = ap (λ (x : ji.Reply). sameNumbers x (said h [])) e ∙ same-self (said h []);
+      numbers = ap (λ (x : ji.Reply). same_numbers x (said h [])) e ∙ same_self (said h []);
       room = omega arith;
       front = ap (take (length wanted)) b ∙ take-append_seam wanted (untouched (length buffer - length wanted));
       rest = d ∙ ap untouched (sym (length-drop (length wanted) buffer));
     }
 
-same-buffer : (x y : ji.Reply) → sameNumbers x y ≡ true → x.buffer ≡ y.buffer → x ≡ y
-same-buffer x y e b =
+same_buffer : (x y : ji.Reply) → same_numbers x y ≡ true → x.buffer ≡ y.buffer → x ≡ y
+same_buffer x y e b =
     let s7 = split _ _ e in
     let s6 = split _ _ s7.0 in
     let s5 = split _ _ s6.0 in
@@ -93,24 +93,24 @@ same-buffer x y e b =
       buffer = b i;
     }
 
-pub whole : (h : Header) (wanted : List ℕ) (r : Reply) (buffer : List ℕ) → Parts h wanted r buffer → AsSaid h wanted (replyOf r buffer)
+pub whole : (h : Header) (wanted : List ℕ) (r : Reply) (buffer : List ℕ) → Parts h wanted r buffer → AsSaid h wanted (reply_of r buffer)
 unfolding AsSaid
 whole h wanted r buffer p = (
   p.count,
-  same-buffer (replyOf r buffer) (said h (wanted ++ untouched (length buffer - length wanted))) p.numbers
+  same_buffer (reply_of r buffer) (said h (wanted ++ untouched (length buffer - length wanted))) p.numbers
       (sym (take-append-drop (length wanted) buffer)
       ∙ ap (λ (l : List ℕ). l ++ drop (length wanted) buffer) p.front
       ∙ ap (λ (l : List ℕ). wanted ++ l) (p.rest ∙ ap untouched (length-drop (length wanted) buffer))),
 )
 
 -- where all but the last part holds, the last part decides
-pub rest-decides : (h : Header) (wanted : List ℕ) (r : Reply) (buffer : List ℕ) (b : Bool) → length wanted ≡ written h
-    → sameNumbers (replyOf r []) (said h []) ≡ true
+pub rest_decides : (h : Header) (wanted : List ℕ) (r : Reply) (buffer : List ℕ) (b : Bool) → length wanted ≡ written h
+    → same_numbers (reply_of r []) (said h []) ≡ true
     → length wanted ≤ length buffer
     → take (length wanted) buffer ≡ wanted
     → Says b (take (length buffer - length wanted) (drop (length wanted) buffer) ≡ untouched (length (take (length buffer - length wanted) (drop (length wanted) buffer))))
-    → Says b (AsSaid h wanted (replyOf r buffer))
-rest-decides h wanted r buffer b n same fits front s =
+    → Says b (AsSaid h wanted (reply_of r buffer))
+rest_decides h wanted r buffer b n same fits front s =
     let all = take_all (length buffer - length wanted) (drop (length wanted) buffer) (simp length-drop (omega arith)) in
     let says : Says b (drop (length wanted) buffer ≡ untouched (length (drop (length wanted) buffer))) = rw all at s in (
       (λ e. whole h wanted r buffer (record { count = n; numbers = same; room = fits; front = front; rest = says.0 e })),
@@ -118,10 +118,10 @@ rest-decides h wanted r buffer b n same fits front s =
     )
 
 -- the verdict on the parts of a body and on the buffer as it is, as one on the body
-pub agrees-by : (h : Header) (body other wanted buffer : List ℕ) (r : ji.Reply) (b : Bool) → other ≡ take h.other (drop h.input body)
+pub agrees_by : (h : Header) (body other wanted buffer : List ℕ) (r : ji.Reply) (b : Bool) → other ≡ take h.other (drop h.input body)
     → wanted ≡ take h.wanted (drop (h.input + h.other) body)
     → buffer ≡ untouched 3136
-    → r ≡ answerOf h (take h.input body) other buffer
+    → r ≡ answer_of h (take h.input body) other buffer
     → Says b (AsSaid h wanted r)
     → Says b (Agrees h body)
-agrees-by h body other wanted buffer r b eo ew eb er s = rw (← eo, ← ew, ← eb, ← er) s
+agrees_by h body other wanted buffer r b eo ew eb er s = rw (← eo, ← ew, ← eb, ← er) s

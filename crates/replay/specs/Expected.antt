@@ -34,8 +34,8 @@ said h buffer =
     }
 
 -- the numbers of two replies are the same
-abbrev pub sameNumbers : Reply → Reply → Bool
-sameNumbers a b =
+abbrev pub same_numbers : Reply → Reply → Bool
+same_numbers a b =
     eqb a.code b.code && eqb a.length b.length && eqb a.count b.count && eqb a.body b.body && eqb a.tone b.tone
     && eqb a.khin b.khin
     && eqb a.position b.position

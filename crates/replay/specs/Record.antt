@@ -3,37 +3,37 @@ use Rattle.std.specs.Prelude.{Bool, ◌&&◌, List, ℕ, ◌+◌, ◌*◌, leb, 
 use Rattle.replay.specs.declared.record.Header.{Header}
 
 -- the number in two bytes, the low one first
-abbrev pub pairAt : List ℕ → ℕ → ℕ
-pairAt s i = get_or s i 0 + 256 * get_or s (i + 1) 0
+abbrev pub pair_at : List ℕ → ℕ → ℕ
+pair_at s i = get_or s i 0 + 256 * get_or s (i + 1) 0
 
 -- the number that eight bytes are, the lowest one first
 abbrev pub eight : ℕ → ℕ → ℕ → ℕ → ℕ → ℕ → ℕ → ℕ → ℕ
 eight a b c d e f g h = a + 256 * (b + 256 * (c + 256 * (d + 256 * (e + 256 * (f + 256 * (g + 256 * h))))))
 
 -- the number in eight bytes
-abbrev pub eightAt : List ℕ → ℕ → ℕ
-eightAt s i =
+abbrev pub eight_at : List ℕ → ℕ → ℕ
+eight_at s i =
     eight (get_or s i 0) (get_or s (i + 1) 0) (get_or s (i + 2) 0) (get_or s (i + 3) 0) (get_or s (i + 4) 0) (get_or s (i + 5) 0) (get_or s (i + 6) 0)
     (get_or s (i + 7) 0)
 
-unfoldable pub headerOf : List ℕ → Header
-headerOf s =
+unfoldable pub header_of : List ℕ → Header
+header_of s =
     record {
       call = get_or s 0 0;
       first = get_or s 1 0;
       second = get_or s 2 0;
       code = get_or s 3 0;
-      input = pairAt s 4;
-      other = pairAt s 6;
-      lent = pairAt s 8;
-      length = pairAt s 10;
-      body = pairAt s 12;
+      input = pair_at s 4;
+      other = pair_at s 6;
+      lent = pair_at s 8;
+      length = pair_at s 10;
+      body = pair_at s 12;
       tone = get_or s 14 0;
       khin = get_or s 15 0;
-      position = pairAt s 16;
-      wanted = pairAt s 18;
-      asked = eightAt s 20;
-      count = eightAt s 28;
+      position = pair_at s 16;
+      wanted = pair_at s 18;
+      asked = eight_at s 20;
+      count = eight_at s 28;
     }
 
 -- the calls that there are

@@ -1,7 +1,7 @@
 // The calls by their numbers.
 ghost use Rattle.std.specs.Prelude.{◌≡◌, ◌≤◌, length};
-ghost use Rattle.robinflint.specs.Reply.{replyOf};
-ghost use Rattle.replay.specs.Calls.{answerOf, sevenOf, syllableAnswer};
+ghost use Rattle.robinflint.specs.Reply.{reply_of};
+ghost use Rattle.replay.specs.Calls.{answer_of, seven_of, syllable_answer};
 
 use crate::record::Header;
 use robinflint::reply::Reply;
@@ -9,7 +9,7 @@ use robinflint::reply::Reply;
 // Makes the call of a header, with the first bytes of `buffer` lent to it where it takes a buffer. `other` is the second text.
 pub(crate) fn answer(h: Header, text: &[u8], other: &[u8], buffer: &mut [u8]) -> Reply
     requires { h.lent ≤ length buffer.old }
-    ensures { replyOf result buffer.new ≡ answerOf h text.now other.now buffer.old }
+    ensures { reply_of result buffer.new ≡ answer_of h text.now other.now buffer.old }
 {
     let lent = h.lent;
     let call = h.call;
@@ -27,7 +27,7 @@ pub(crate) fn answer(h: Header, text: &[u8], other: &[u8], buffer: &mut [u8]) ->
 
 // Makes a call from 7 on. Each of them takes a buffer, which is `out`.
 fn answer_of_syllables(h: Header, text: &[u8], other: &[u8], out: &mut [u8]) -> Reply
-    ensures { replyOf result out.new ≡ syllableAnswer h text.now other.now out.old }
+    ensures { reply_of result out.new ≡ syllable_answer h text.now other.now out.old }
 {
     let call = h.call;
     match call {
@@ -45,7 +45,7 @@ fn answer_of_syllables(h: Header, text: &[u8], other: &[u8], out: &mut [u8]) -> 
 
 // The tone keys in a text of seven bytes. Any other text counts as seven zeros.
 fn seven(s: &[u8]) -> [u8; 7]
-    ensures { result ≡ sevenOf s.now }
+    ensures { result ≡ seven_of s.now }
 {
     if s.len() == 7 {
         return [s[0], s[1], s[2], s[3], s[4], s[5], s[6]];

@@ -1,7 +1,7 @@
 // Whether a reply and the buffer are as a record says.
 ghost use Rattle.std.specs.Prelude.{◌≡◌, [], length};
-ghost use Rattle.robinflint.specs.Reply.{replyOf};
-ghost use Rattle.replay.specs.Expected.{Says, untouched, written, said, sameNumbers, AsSaid};
+ghost use Rattle.robinflint.specs.Reply.{reply_of};
+ghost use Rattle.replay.specs.Expected.{Says, untouched, written, said, same_numbers, AsSaid};
 
 use crate::record::Header;
 use robinflint::reply::Reply;
@@ -41,7 +41,7 @@ pub(crate) fn bytes_written(h: Header) -> usize
 
 // Whether the numbers of a reply are the header's.
 pub(crate) fn has_numbers(reply: Reply, h: Header) -> bool
-    ensures { result ≡ sameNumbers (replyOf reply []) (said h []) }
+    ensures { result ≡ same_numbers (reply_of reply []) (said h []) }
 {
     (reply.code == h.code as u64)
         & (reply.length == h.length as u64)
@@ -54,7 +54,7 @@ pub(crate) fn has_numbers(reply: Reply, h: Header) -> bool
 
 // Whether a reply and the buffer are as the record says, whose output is `wanted`.
 pub(crate) fn is_as_said(h: Header, wanted: &[u8], reply: Reply, buffer: &[u8]) -> bool
-    ensures { Says result (AsSaid h wanted.now (replyOf reply buffer.now)) }
+    ensures { Says result (AsSaid h wanted.now (reply_of reply buffer.now)) }
 {
     let n = wanted.len();
     if n != bytes_written(h) {

@@ -1,6 +1,6 @@
 // A record of a list of answers: a header of 36 bytes, then the first text, the second text, and the bytes that the call is to write.
 ghost use Rattle.std.specs.Prelude.{◌≡◌, ◌+◌, ◌*◌};
-ghost use Rattle.replay.specs.Record.{eight, headerOf, replayable};
+ghost use Rattle.replay.specs.Record.{eight, header_of, replayable};
 
 // The most bytes of a text, of a lent buffer, and of an output.
 pub const MOST: usize = 3072;
@@ -43,7 +43,7 @@ fn word(a: u8, b: u8, c: u8, d: u8, e: u8, f: u8, g: u8, h: u8) -> u64
 }
 
 pub(crate) fn read(s: &[u8; 36]) -> Header
-    ensures { result ≡ headerOf s.now }
+    ensures { result ≡ header_of s.now }
 {
     Header {
         call: s[0],

@@ -3,8 +3,8 @@ use Rattle.std.specs.Prelude.{List, ℕ}
 use Rattle.ji.specs.Reply as ji
 use Rattle.robinflint.specs.declared.reply.Reply.{Reply}
 
-abbrev pub replyOf : Reply → List ℕ → ji.Reply
-replyOf r buffer =
+abbrev pub reply_of : Reply → List ℕ → ji.Reply
+reply_of r buffer =
     record {
       code = r.code;
       length = r.length;

@@ -1,6 +1,6 @@
 // The numbers that a caller passes, as the libraries have them. A call checks its numbers before it turns them.
 ghost use Rattle.std.specs.Prelude.{◌≡◌};
-ghost use Rattle.robinflint.specs.Arguments.{toneOf, khinOf, kind_of, mode_of, keysOf};
+ghost use Rattle.robinflint.specs.Arguments.{tone_of, khin_of, kind_of, mode_of, keys_of};
 
 use ji::lomaji::keys::Kind;
 use ji::lomaji::khin::Khin;
@@ -9,7 +9,7 @@ use khiin::converter::{ToneKeys, ToneMode};
 
 // The tone of a number, None of any number above 9.
 pub fn tone_of(number: u64) -> Tone
-    ensures { result ≡ toneOf number }
+    ensures { result ≡ tone_of number }
 {
     match number {
         1 => Tone::T1,
@@ -27,7 +27,7 @@ pub fn tone_of(number: u64) -> Tone
 
 // 0 is no, any other number yes.
 pub fn khin_of(number: u64) -> Khin
-    ensures { result ≡ khinOf number }
+    ensures { result ≡ khin_of number }
 {
     if number == 0 {
         return Khin::No;
@@ -60,7 +60,7 @@ pub fn mode_of(number: u64) -> ToneMode
 
 // The keys for t2 t3 t5 t6 t7 t8 t9.
 pub fn keys_of(keys: &[u8; 7]) -> ToneKeys
-    ensures { result ≡ keysOf keys.now }
+    ensures { result ≡ keys_of keys.now }
 {
     ToneKeys {
         t2: keys[0],

@@ -1,9 +1,9 @@
 // What a call replies to C.
 ghost use Rattle.std.specs.Prelude.{◌≡◌, List, [], ℕ};
-ghost use Rattle.ji.specs.Reply.{refused, found, textReply};
-ghost use Rattle.khiin_entries.specs.KeySequence.{keyingReply};
-ghost use Rattle.khiin_records.specs.Syllable.{recordReply};
-ghost use Rattle.robinflint.specs.Reply.{replyOf};
+ghost use Rattle.ji.specs.Reply.{refused, found, text_reply};
+ghost use Rattle.khiin_entries.specs.KeySequence.{keying_reply};
+ghost use Rattle.khiin_records.specs.Syllable.{record_reply};
+ghost use Rattle.robinflint.specs.Reply.{reply_of};
 
 use ji::lomaji::khin;
 use ji::reply::{Refusal, TextAnswer};
@@ -27,7 +27,7 @@ pub struct Reply {
 // A refusal: its number, and zeros.
 #[inline(always)]
 pub fn refuse(why: Refusal) -> Reply
-    ensures { (buffer : List ℕ) → replyOf result buffer ≡ refused why buffer }
+    ensures { (buffer : List ℕ) → reply_of result buffer ≡ refused why buffer }
 {
     Reply {
         code: reply::number(why),
@@ -43,7 +43,7 @@ pub fn refuse(why: Refusal) -> Reply
 // A length, and a position.
 #[inline(always)]
 pub fn found(length: u64, position: u64) -> Reply
-    ensures { replyOf result [] ≡ found length position }
+    ensures { reply_of result [] ≡ found length position }
 {
     Reply {
         code: 0,
@@ -59,7 +59,7 @@ pub fn found(length: u64, position: u64) -> Reply
 // A text in the lent buffer.
 #[inline(always)]
 pub fn text(answer: TextAnswer) -> Reply
-    ensures { (buffer : List ℕ) → replyOf result buffer ≡ textReply answer buffer }
+    ensures { (buffer : List ℕ) → reply_of result buffer ≡ text_reply answer buffer }
 {
     match answer {
         TextAnswer::Refused(why) => refuse(why),
@@ -78,7 +78,7 @@ pub fn text(answer: TextAnswer) -> Reply
 // A syllable record, with its raw input in the lent buffer.
 #[inline(always)]
 pub fn syllable(answer: Recorded) -> Reply
-    ensures { (buffer : List ℕ) → replyOf result buffer ≡ recordReply answer buffer }
+    ensures { (buffer : List ℕ) → reply_of result buffer ≡ record_reply answer buffer }
 {
     match answer {
         Recorded::Refused(why) => refuse(why),
@@ -103,7 +103,7 @@ pub fn syllable(answer: Recorded) -> Reply
 // A keying in the lent buffer, and how many its list has.
 #[inline(always)]
 pub fn keying(answer: Keying) -> Reply
-    ensures { (buffer : List ℕ) → replyOf result buffer ≡ keyingReply answer buffer }
+    ensures { (buffer : List ℕ) → reply_of result buffer ≡ keying_reply answer buffer }
 {
     match answer {
         Keying::Refused(why) => refuse(why),

@@ -10,20 +10,20 @@ use lib.Dec.{leb, ltb}
 use lib.ListN.{length, get_or, length-map}
 use Rattle.ji.specs.Unicode.{unicode16}
 use Rattle.ji.specs.Utf8.{encode}
-use Rattle.ji.specs.Reply.{Reply, refused, pickReply, Checked, good, bad}
+use Rattle.ji.specs.Reply.{Reply, refused, pick_reply, Checked, good, bad}
 use Rattle.ji.specs.declared.reply.Refusal.{Refusal}
 use Rattle.ji.specs.declared.reply.Refusal.TheVariants.{Argument, Position, NoRoom}
-use Rattle.ji.proofs.Replies.{refusal-some}
-use Rattle.khiin_entries.specs.KeySequence.{keyings, checkEntry, keyed, placedKeying, keyingOf, keyingCall}
-use Rattle.khiin_entries.proofs.key_sequence.Splitting.{map-at}
-use Rattle.robinflint.specs.Arguments.{kind_of, keyingNumbered}
+use Rattle.ji.proofs.Replies.{refusal_some}
+use Rattle.khiin_entries.specs.KeySequence.{keyings, check_entry, keyed, placed_keying, keying_of, keying_call}
+use Rattle.khiin_entries.proofs.key_sequence.Splitting.{map_at}
+use Rattle.robinflint.specs.Arguments.{kind_of, keying_numbered}
 use Rattle.grammar.specs.WellFormed.{Texts}
-use Rattle.roundtrip.specs.Demand3.{listFor, keyingFor, given, Answered}
+use Rattle.roundtrip.specs.Demand3.{list_for, keying_for, given, Answered}
 
 -- of a reply and a refusal the one that is not refused
-taken : (b : Bool) (r : Reply) (why : Refusal) (buffer : List ℕ) → (pickReply b r (refused why buffer)).code ≡ 0 → (b ≡ true) × (r.code ≡ 0)
+taken : (b : Bool) (r : Reply) (why : Refusal) (buffer : List ℕ) → (pick_reply b r (refused why buffer)).code ≡ 0 → (b ≡ true) × (r.code ≡ 0)
 taken true r why buffer h = (refl, h)
-taken false r why buffer h = absurd (omega (arith, refusal-some why))
+taken false r why buffer h = absurd (omega (arith, refusal_some why))
 
 -- ── a good entry
 module _ (bytes text : List ℕ) (kind position : ℕ) (buffer : List ℕ) where
@@ -33,46 +33,46 @@ module _ (bytes text : List ℕ) (kind position : ℕ) (buffer : List ℕ) where
   abbrev output : List ℕ
   output = encode (get_or texts position [])
 
-  output-is : keyingFor kind text position ≡ output
-  unfolding listFor
-  output-is = map-at texts position
+  output_is : keying_for kind text position ≡ output
+  unfolding list_for
+  output_is = map_at texts position
 
-  count-is : length (listFor kind text) ≡ length texts
-  unfolding listFor
-  count-is = length-map texts encode
+  count_is : length (list_for kind text) ≡ length texts
+  unfolding list_for
+  count_is = length-map texts encode
 
   -- a call that nothing refuses
-  pub good-answers : checkEntry unicode16 bytes ≡ good text → kind ≤ 2 → position < length (listFor kind text) → length (keyingFor kind text position) ≤ length buffer
-      → keyingNumbered bytes kind position buffer ≡ given kind text position buffer
-  unfolding keyingCall
-  good-answers e known inside fits =
-      let n : position < length texts = rw (← count-is) inside in
-      let k : length output ≤ length buffer = rw (← output-is) fits in
-      ap (λ (b : Bool). pickReply b (keyingCall unicode16 bytes (kind_of kind) position buffer) (refused Argument buffer)) (le-leb kind 2 known)
-      ∙ ap (λ (c : Checked). keyingOf unicode16 (kind_of kind) c position buffer) e
-      ∙ ap (λ (b : Bool). pickReply b (placedKeying unicode16 (length texts) output buffer) (refused Position buffer)) (lt-ltb position (length texts) n)
-      ∙ ap (λ (b : Bool). pickReply b (keyed unicode16 (length texts) output buffer) (refused NoRoom buffer)) (le-leb (length output) (length buffer) k)
-      ∙ ap₂ (λ (c : ℕ) (u : List ℕ). keyed unicode16 c u buffer) (sym count-is) (sym output-is)
+  pub good_answers : check_entry unicode16 bytes ≡ good text → kind ≤ 2 → position < length (list_for kind text) → length (keying_for kind text position) ≤ length buffer
+      → keying_numbered bytes kind position buffer ≡ given kind text position buffer
+  unfolding keying_call
+  good_answers e known inside fits =
+      let n : position < length texts = rw (← count_is) inside in
+      let k : length output ≤ length buffer = rw (← output_is) fits in
+      ap (λ (b : Bool). pick_reply b (keying_call unicode16 bytes (kind_of kind) position buffer) (refused Argument buffer)) (le-leb kind 2 known)
+      ∙ ap (λ (c : Checked). keying_of unicode16 (kind_of kind) c position buffer) e
+      ∙ ap (λ (b : Bool). pick_reply b (placed_keying unicode16 (length texts) output buffer) (refused Position buffer)) (lt-ltb position (length texts) n)
+      ∙ ap (λ (b : Bool). pick_reply b (keyed unicode16 (length texts) output buffer) (refused NoRoom buffer)) (le-leb (length output) (length buffer) k)
+      ∙ ap₂ (λ (c : ℕ) (u : List ℕ). keyed unicode16 c u buffer) (sym count_is) (sym output_is)
 
   -- a call that is not refused
-  good-answered : checkEntry unicode16 bytes ≡ good text → kind ≤ 2 → (keyingOf unicode16 (kind_of kind) (good text) position buffer).code ≡ 0
+  good_answered : check_entry unicode16 bytes ≡ good text → kind ≤ 2 → (keying_of unicode16 (kind_of kind) (good text) position buffer).code ≡ 0
       → Answered bytes kind position buffer
-  good-answered e known h =
-      let (there, placed) = taken (ltb position (length texts)) (placedKeying unicode16 (length texts) output buffer) Position buffer h in
+  good_answered e known h =
+      let (there, placed) = taken (ltb position (length texts)) (placed_keying unicode16 (length texts) output buffer) Position buffer h in
       let (room, done) = taken (leb (length output) (length buffer)) (keyed unicode16 (length texts) output buffer) NoRoom buffer placed in
-      let inside : position < length (listFor kind text) = rw count-is (ltb-true position (length texts) there) in
-      let fits : length (keyingFor kind text position) ≤ length buffer = rw output-is (leb-true (length output) (length buffer) room) in
-      record { text = text; known = known; checked = e; inside = inside; fits = fits; gives = good-answers e known inside fits }
+      let inside : position < length (list_for kind text) = rw count_is (ltb-true position (length texts) there) in
+      let fits : length (keying_for kind text position) ≤ length buffer = rw output_is (leb-true (length output) (length buffer) room) in
+      record { text = text; known = known; checked = e; inside = inside; fits = fits; gives = good_answers e known inside fits }
 
 -- ── any entry
 module _ (bytes : List ℕ) (kind position : ℕ) (buffer : List ℕ) where
-  checked-answered : (c : Checked) → checkEntry unicode16 bytes ≡ c → kind ≤ 2 → (keyingOf unicode16 (kind_of kind) c position buffer).code ≡ 0
+  checked_answered : (c : Checked) → check_entry unicode16 bytes ≡ c → kind ≤ 2 → (keying_of unicode16 (kind_of kind) c position buffer).code ≡ 0
       → Answered bytes kind position buffer
-  checked-answered (good text) e known h = good-answered bytes text kind position buffer e known h
-  checked-answered (bad why) e known h = absurd (omega (arith, refusal-some why))
+  checked_answered (good text) e known h = good_answered bytes text kind position buffer e known h
+  checked_answered (bad why) e known h = absurd (omega (arith, refusal_some why))
 
-  pub call-answered : (keyingNumbered bytes kind position buffer).code ≡ 0 → Answered bytes kind position buffer
-  unfolding keyingCall
-  call-answered h =
-      let (known, called) = taken (leb kind 2) (keyingCall unicode16 bytes (kind_of kind) position buffer) Argument buffer h in
-      checked-answered (checkEntry unicode16 bytes) refl (leb-true kind 2 known) called
+  pub call_answered : (keying_numbered bytes kind position buffer).code ≡ 0 → Answered bytes kind position buffer
+  unfolding keying_call
+  call_answered h =
+      let (known, called) = taken (leb kind 2) (keying_call unicode16 bytes (kind_of kind) position buffer) Argument buffer h in
+      checked_answered (check_entry unicode16 bytes) refl (leb-true kind 2 known) called

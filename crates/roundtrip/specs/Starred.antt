@@ -5,7 +5,7 @@ use Rattle.ji.specs.Text.{points, marked, point}
 use Rattle.ji.specs.Lomaji.Strip.{strip}
 use Rattle.ji.specs.declared.tone.Tone.{Tone}
 use Rattle.ji.specs.declared.tone.Tone.TheVariants.{T1, T2, T4, T5}
-use Rattle.khiin_records.specs.Syllable.{raw, fromRaw, fromComposed}
+use Rattle.khiin_records.specs.Syllable.{raw, from_raw, from_composed}
 use Rattle.khiin_records.specs.Alignment.{aligned}
 use Rattle.khiin.specs.Syllable.{compose}
 use Rattle.khiin.specs.Converter.{telex}
@@ -27,8 +27,8 @@ pub data Example : Type 0 where
   types : List ℕ → ℕ → List ℕ → Example
 
 -- "keys s f l x j j w for t2 t3 t5 t6 t7 t8 t9"
-abbrev pub toneKeys : ToneKeys
-toneKeys = record { t2 = point "s"; t3 = point "f"; t5 = point "l"; t6 = point "x"; t7 = point "j"; t8 = point "j"; t9 = point "w" }
+abbrev pub tone_keys : ToneKeys
+tone_keys = record { t2 = point "s"; t3 = point "f"; t5 = point "l"; t6 = point "x"; t7 = point "j"; t8 = point "j"; t9 = point "w" }
 
 abbrev pub starred : List Example
 starred =
@@ -51,11 +51,11 @@ starred =
 -- what an example says of the definitions
 abbrev pub Holds : Example → Type 0
 Holds (strips s rest tone) = strip unicode16 s ≡ record { rest = rest; tone = tone }
-Holds (composes keys s) = compose unicode16 keys (fromRaw keys).body (fromRaw keys).tone (fromRaw keys).khin ≡ s
-Holds (candidates s raws) = map raw (fromComposed unicode16 s) ≡ raws
-Holds (aligns keys target n body) = (aligned unicode16 keys target ≡ n) × ((fromRaw (take n keys)).body ≡ body)
+Holds (composes keys s) = compose unicode16 keys (from_raw keys).body (from_raw keys).tone (from_raw keys).khin ≡ s
+Holds (candidates s raws) = map raw (from_composed unicode16 s) ≡ raws
+Holds (aligns keys target n body) = (aligned unicode16 keys target ≡ n) × ((from_raw (take n keys)).body ≡ body)
 Holds (unaligned keys target) = aligned unicode16 keys target ≡ 0
-Holds (types s key t) = telex unicode16 Telex toneKeys key s ≡ t
+Holds (types s key t) = telex unicode16 Telex tone_keys key s ≡ t
 
 abbrev pub AllHold : List Example → Type 0
 AllHold [] = Unit {0}

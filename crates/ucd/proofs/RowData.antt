@@ -4,8 +4,8 @@ use mathlib.Core.List.{List, [], ◌∷◌}
 use Prim.Native.Nat.{ℕ}
 
 -- by code point: the first code point of its mapping times 65536, plus the second, if there is one
-unfoldable pub mappingNumbers : List (ℕ × List ℕ)
-mappingNumbers = (
+unfoldable pub mapping_numbers : List (ℕ × List ℕ)
+mapping_numbers = (
   6,
   0x00410300 ∷ 0x00410301 ∷ 0x00410302 ∷ 0x00410303 ∷ 0x00410308 ∷ 0x0041030A ∷ 0x00000000 ∷ 0x00430327 ∷
       0x00450300 ∷ 0x00450301 ∷ 0x00450302 ∷ 0x00450308 ∷ 0x00490300 ∷ 0x00490301 ∷ 0x00490302 ∷ 0x00490308 ∷
@@ -155,8 +155,8 @@ mappingNumbers = (
 ) ∷ []
 
 -- by code point: its combining class
-unfoldable pub classNumbers : List (ℕ × List ℕ)
-classNumbers = (
+unfoldable pub class_numbers : List (ℕ × List ℕ)
+class_numbers = (
   24,
   230 ∷ 230 ∷ 230 ∷ 230 ∷ 230 ∷ 230 ∷ 230 ∷ 230 ∷
       230 ∷ 230 ∷ 230 ∷ 230 ∷ 230 ∷ 230 ∷ 230 ∷ 230 ∷
@@ -187,8 +187,8 @@ classNumbers = (
 ) ∷ []
 
 -- by mark: its displacement, where its candidates begin
-unfoldable pub displacementNumbers : List (ℕ × List ℕ)
-displacementNumbers = (
+unfoldable pub displacement_numbers : List (ℕ × List ℕ)
+displacement_numbers = (
   24,
   0x01E6 ∷ 0x0000 ∷ 0x0117 ∷ 0x02B2 ∷ 0x01E3 ∷ 0x0000 ∷ 0x0219 ∷ 0x003A ∷
       0x00CF ∷ 0x02C5 ∷ 0x0043 ∷ 0x0036 ∷ 0x0199 ∷ 0x0000 ∷ 0x0000 ∷ 0x0088 ∷
@@ -205,8 +205,8 @@ displacementNumbers = (
 ) ∷ []
 
 -- by displacement of b plus remainder of a: the one code point that can be the composite of a and b
-unfoldable pub candidateNumbers : List (ℕ × List ℕ)
-candidateNumbers = (
+unfoldable pub candidate_numbers : List (ℕ × List ℕ)
+candidate_numbers = (
   1,
   0x0000 ∷ 0x0000 ∷ 0x0000 ∷ 0x0000 ∷ 0x0000 ∷ 0x0000 ∷ 0x0000 ∷ 0x0000 ∷
       0x0000 ∷ 0x1EDA ∷ 0x1EDB ∷ 0x0000 ∷ 0x0000 ∷ 0x0000 ∷ 0x0000 ∷ 0x0000 ∷

@@ -7,46 +7,46 @@ use native.Mathlib.Omega.{arith}
 use lib.Dec.{T, ltb, eqb, ltb→lt}
 use lib.ListN.{get_or}
 use borrow.Author.Tests.{ne_eqb}
-use Rattle.ucd.specs.Table.{listed, mappingOf, classIn, mapping, combiningClass, composite}
+use Rattle.ucd.specs.Table.{listed, mapping_of, class_in, mapping, combining_class, composite}
 use Rattle.ucd.specs.Unicode16.{unicode16, mappings16, classes16, exclusions16}
-use Rattle.ucd.specs.Answer.{unpackedText, unpacked, verified}
-use Rattle.ucd.proofs.Tests.{either, both-left, both-right}
-use Rattle.ucd.proofs.RowData.{mappingNumbers, classNumbers, displacementNumbers, candidateNumbers, modulus}
-use Rattle.ucd.proofs.RowLaw.{rowIn, numberAt, entries, ascending, number-at, row-read, NoRow, no-row-read}
-use Rattle.ucd.proofs.Lists.{eachMapping}
+use Rattle.ucd.specs.Answer.{unpacked_text, unpacked, verified}
+use Rattle.ucd.proofs.Tests.{either, both_left, both_right}
+use Rattle.ucd.proofs.RowData.{mapping_numbers, class_numbers, displacement_numbers, candidate_numbers, modulus}
+use Rattle.ucd.proofs.RowLaw.{row_in, number_at, entries, ascending, number_at_law, row_read, NoRow, no_row_read}
+use Rattle.ucd.proofs.Lists.{each_mapping}
 use Rattle.ucd.proofs.Facts.{primary}
-use Rattle.ucd.proofs.Candidate.{rightCandidate, candidate-composite}
+use Rattle.ucd.proofs.Candidate.{right_candidate, candidate_composite}
 
 -- The classes.
 
 -- the rows are in order
-class-numbers-ascend : T (ascending 0 classNumbers)
-unfolding classNumbers
-class-numbers-ascend = tt
+class_numbers_ascend : T (ascending 0 class_numbers)
+unfolding class_numbers
+class_numbers_ascend = tt
 
 -- the rows hold the table's list
-class-entries : entries classNumbers ≡ classes16
-unfolding classNumbers classes16
-class-entries = refl
+class_entries : entries class_numbers ≡ classes16
+unfolding class_numbers classes16
+class_entries = refl
 
 -- so each number of the rows is the class
-pub class-number : (c : ℕ) → numberAt classNumbers c ≡ combiningClass unicode16 c
-unfolding combiningClass unicode16
-class-number c = number-at 0 classNumbers class-numbers-ascend c ∙ ap (λ (es : List (ℕ × ℕ)). classIn es c) class-entries
+pub class_number : (c : ℕ) → number_at class_numbers c ≡ combining_class unicode16 c
+unfolding combining_class unicode16
+class_number c = number_at_law 0 class_numbers class_numbers_ascend c ∙ ap (λ (es : List (ℕ × ℕ)). class_in es c) class_entries
 
 -- what an arm of the code's match reads, and what its last arm answers
-pub class-arm : (c k : ℕ) → c / 32 ≡ k → get_or (rowIn classNumbers k) (c % 32) 0 ≡ combiningClass unicode16 c
-class-arm c k e = row-read classNumbers c k e ∙ class-number c
+pub class_arm : (c k : ℕ) → c / 32 ≡ k → get_or (row_in class_numbers k) (c % 32) 0 ≡ combining_class unicode16 c
+class_arm c k e = row_read class_numbers c k e ∙ class_number c
 
-pub class-rest : (c : ℕ) → NoRow (Unit {0}) classNumbers (c / 32) → 0 ≡ combiningClass unicode16 c
-class-rest c h = no-row-read classNumbers c h ∙ class-number c
+pub class_rest : (c : ℕ) → NoRow (Unit {0}) class_numbers (c / 32) → 0 ≡ combining_class unicode16 c
+class_rest c h = no_row_read class_numbers c h ∙ class_number c
 
 -- The decompositions.
 
 -- the mappings that entries stand for
-abbrev mappingsOf : List (ℕ × ℕ) → List (ℕ × List ℕ)
-mappingsOf [] = []
-mappingsOf (e ∷ es) = (e.0, unpackedText e.1) ∷ mappingsOf es
+abbrev mappings_of : List (ℕ × ℕ) → List (ℕ × List ℕ)
+mappings_of [] = []
+mappings_of (e ∷ es) = (e.0, unpacked_text e.1) ∷ mappings_of es
 
 -- no entry is 0
 abbrev numbered : List (ℕ × ℕ) → Bool
@@ -54,77 +54,77 @@ numbered [] = true
 numbered (e ∷ es) = ltb 0 e.1 && numbered es
 
 -- the rows are in order
-mapping-numbers-ascend : T (ascending 0 mappingNumbers)
-unfolding mappingNumbers
-mapping-numbers-ascend = tt
+mapping_numbers_ascend : T (ascending 0 mapping_numbers)
+unfolding mapping_numbers
+mapping_numbers_ascend = tt
 
 -- the rows hold the table's list
-mapping-entries : mappingsOf (entries mappingNumbers) ≡ mappings16
-unfolding mappingNumbers mappings16
-mapping-entries = refl
+mapping_entries : mappings_of (entries mapping_numbers) ≡ mappings16
+unfolding mapping_numbers mappings16
+mapping_entries = refl
 
-entries-numbered : T (numbered (entries mappingNumbers))
-unfolding mappingNumbers
-entries-numbered = tt
+entries_numbered : T (numbered (entries mapping_numbers))
+unfolding mapping_numbers
+entries_numbered = tt
 
 -- to unpack the number that is found is to find the unpacked mapping
-unpacked-in : (es : List (ℕ × ℕ)) (c : ℕ) → T (numbered es) → unpacked (classIn es c) ≡ mappingOf (mappingsOf es) c
-unfolding classIn mappingOf
-unpacked-in [] c h = refl
-unpacked-in (e ∷ es) c h =
-    let some-number : 0 < e.1 = ltb→lt 0 e.1 (both-left (ltb 0 e.1) (numbered es) h) in
+unpacked_in : (es : List (ℕ × ℕ)) (c : ℕ) → T (numbered es) → unpacked (class_in es c) ≡ mapping_of (mappings_of es) c
+unfolding class_in mapping_of
+unpacked_in [] c h = refl
+unpacked_in (e ∷ es) c h =
+    let some_number : 0 < e.1 = ltb→lt 0 e.1 (both_left (ltb 0 e.1) (numbered es) h) in
     either (eqb e.0 c)
     (λ k. rw (k, ne_eqb e.1 0 (omega arith)))
-    (λ k. rw k (unpacked-in es c (both-right (ltb 0 e.1) (numbered es) h)))
+    (λ k. rw k (unpacked_in es c (both_right (ltb 0 e.1) (numbered es) h)))
 
 -- so each number of the rows stands for the mapping
-pub mapping-number : (c : ℕ) → unpacked (numberAt mappingNumbers c) ≡ mapping unicode16 c
+pub mapping_number : (c : ℕ) → unpacked (number_at mapping_numbers c) ≡ mapping unicode16 c
 unfolding mapping unicode16
-mapping-number c =
-    ap unpacked (number-at 0 mappingNumbers mapping-numbers-ascend c) ∙ unpacked-in (entries mappingNumbers) c entries-numbered ∙
-    ap (λ (rs : List (ℕ × List ℕ)). mappingOf rs c) mapping-entries
+mapping_number c =
+    ap unpacked (number_at_law 0 mapping_numbers mapping_numbers_ascend c) ∙ unpacked_in (entries mapping_numbers) c entries_numbered ∙
+    ap (λ (rs : List (ℕ × List ℕ)). mapping_of rs c) mapping_entries
 
 -- what an arm of the code's match reads, and what its last arm answers
-pub mapping-arm : (c k : ℕ) → c / 32 ≡ k → unpacked (get_or (rowIn mappingNumbers k) (c % 32) 0) ≡ mapping unicode16 c
-mapping-arm c k e = ap unpacked (row-read mappingNumbers c k e) ∙ mapping-number c
+pub mapping_arm : (c k : ℕ) → c / 32 ≡ k → unpacked (get_or (row_in mapping_numbers k) (c % 32) 0) ≡ mapping unicode16 c
+mapping_arm c k e = ap unpacked (row_read mapping_numbers c k e) ∙ mapping_number c
 
-pub mapping-rest : (c : ℕ) → NoRow (Unit {0}) mappingNumbers (c / 32) → unpacked 0 ≡ mapping unicode16 c
-mapping-rest c h = ap unpacked (no-row-read mappingNumbers c h) ∙ mapping-number c
+pub mapping_rest : (c : ℕ) → NoRow (Unit {0}) mapping_numbers (c / 32) → unpacked 0 ≡ mapping unicode16 c
+mapping_rest c h = ap unpacked (no_row_read mapping_numbers c h) ∙ mapping_number c
 
 -- The composites.
 
 -- the one code point that can be the composite of a and b
-unfoldable pub candidateOf : ℕ → ℕ → ℕ
-unfolding displacementNumbers candidateNumbers
-candidateOf a b = numberAt candidateNumbers (numberAt displacementNumbers b + a % modulus)
+unfoldable pub candidate_of : ℕ → ℕ → ℕ
+unfolding displacement_numbers candidate_numbers
+candidate_of a b = number_at candidate_numbers (number_at displacement_numbers b + a % modulus)
 
 -- the test: a mapping's candidate is the one that has it exactly if that is a primary composite
-candidates-right : T (eachMapping (rightCandidate unicode16 candidateOf) mappings16)
-unfolding rightCandidate primary candidateOf listed classIn combiningClass unicode16 mappings16 classes16 exclusions16
-candidates-right = tt
+candidates_right : T (each_mapping (right_candidate unicode16 candidate_of) mappings16)
+unfolding right_candidate primary candidate_of listed class_in combining_class unicode16 mappings16 classes16 exclusions16
+candidates_right = tt
 
 -- so the candidate is the composite exactly if its decomposition is a, b
-pub candidate-verified : (a b : ℕ) → verified a b (candidateOf a b) ≡ composite unicode16 a b
+pub candidate_verified : (a b : ℕ) → verified a b (candidate_of a b) ≡ composite unicode16 a b
 unfolding unicode16
-candidate-verified a b = candidate-composite unicode16 candidateOf candidates-right a b
+candidate_verified a b = candidate_composite unicode16 candidate_of candidates_right a b
 
 -- what an arm of the code's first match reads, and what its last arm answers
-pub displacement-arm : (b k : ℕ) → b / 32 ≡ k → get_or (rowIn displacementNumbers k) (b % 32) 0 ≡ numberAt displacementNumbers b
-displacement-arm b k e = row-read displacementNumbers b k e
+pub displacement_arm : (b k : ℕ) → b / 32 ≡ k → get_or (row_in displacement_numbers k) (b % 32) 0 ≡ number_at displacement_numbers b
+displacement_arm b k e = row_read displacement_numbers b k e
 
-pub displacement-rest : (b : ℕ) → NoRow (Unit {0}) displacementNumbers (b / 32) → 0 ≡ numberAt displacementNumbers b
-displacement-rest b h = no-row-read displacementNumbers b h
+pub displacement_rest : (b : ℕ) → NoRow (Unit {0}) displacement_numbers (b / 32) → 0 ≡ number_at displacement_numbers b
+displacement_rest b h = no_row_read displacement_numbers b h
 
 -- what an arm of its second match reads at the displacement d, and what its last arm answers
-module _ (a b d : ℕ) (e : d ≡ numberAt displacementNumbers b) where
+module _ (a b d : ℕ) (e : d ≡ number_at displacement_numbers b) where
   -- the place is the candidate's
-  placed : numberAt candidateNumbers (d + a % modulus) ≡ candidateOf a b
-  unfolding candidateOf
-  placed = ap (λ (m : ℕ). numberAt candidateNumbers (m + a % modulus)) e
+  placed : number_at candidate_numbers (d + a % modulus) ≡ candidate_of a b
+  unfolding candidate_of
+  placed = ap (λ (m : ℕ). number_at candidate_numbers (m + a % modulus)) e
 
-  pub candidate-arm : (k : ℕ) → (d + a % modulus) / 32 ≡ k
-      → verified a b (get_or (rowIn candidateNumbers k) ((d + a % modulus) % 32) 0) ≡ composite unicode16 a b
-  candidate-arm k h = ap (verified a b) (row-read candidateNumbers (d + a % modulus) k h ∙ placed) ∙ candidate-verified a b
+  pub candidate_arm : (k : ℕ) → (d + a % modulus) / 32 ≡ k
+      → verified a b (get_or (row_in candidate_numbers k) ((d + a % modulus) % 32) 0) ≡ composite unicode16 a b
+  candidate_arm k h = ap (verified a b) (row_read candidate_numbers (d + a % modulus) k h ∙ placed) ∙ candidate_verified a b
 
-  pub candidate-rest : NoRow (Unit {0}) candidateNumbers ((d + a % modulus) / 32) → verified a b 0 ≡ composite unicode16 a b
-  candidate-rest h = ap (verified a b) (no-row-read candidateNumbers (d + a % modulus) h ∙ placed) ∙ candidate-verified a b
+  pub candidate_rest : NoRow (Unit {0}) candidate_numbers ((d + a % modulus) / 32) → verified a b 0 ≡ composite unicode16 a b
+  candidate_rest h = ap (verified a b) (no_row_read candidate_numbers (d + a % modulus) h ∙ placed) ∙ candidate_verified a b

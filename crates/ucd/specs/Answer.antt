@@ -1,7 +1,7 @@
 -- What the answers of the lookups mean.
 use Rattle.std.specs.Prelude.{List, [], ◌∷◌, ℕ, ◌/◌, ◌%◌, eqb}
 use Rattle.std.proofs.Math.Option.{Option, none, some}
-use Rattle.ucd.specs.Table.{decomposition, pickText, pickMapping, pickPoint, same}
+use Rattle.ucd.specs.Table.{decomposition, pick_text, pick_mapping, pick_point, same}
 use Rattle.ucd.specs.Unicode16.{unicode16}
 use Rattle.ucd.specs.declared.Mapping.{Mapping}
 use Rattle.ucd.specs.declared.Mapping.TheVariants.{Itself, One, Two}
@@ -15,17 +15,17 @@ said (One a) = some (a ∷ [])
 said (Two a b) = some (a ∷ b ∷ [])
 
 -- the composite, if there is one
-abbrev pub pointOf : Made → Option ℕ
-pointOf (Point p) = some p
-pointOf Nothing = none
+abbrev pub point_of : Made → Option ℕ
+point_of (Point p) = some p
+point_of Nothing = none
 
 -- the mapping that a number of the rows stands for: 0 for none, else its first code point times 65536, plus the second, if there is one
-abbrev pub unpackedText : ℕ → List ℕ
-unpackedText n = pickText (eqb (n % 65536) 0) (n / 65536 ∷ []) (n / 65536 ∷ n % 65536 ∷ [])
+abbrev pub unpacked_text : ℕ → List ℕ
+unpacked_text n = pick_text (eqb (n % 65536) 0) (n / 65536 ∷ []) (n / 65536 ∷ n % 65536 ∷ [])
 
 abbrev pub unpacked : ℕ → Option (List ℕ)
-unpacked n = pickMapping (eqb n 0) none (some (unpackedText n))
+unpacked n = pick_mapping (eqb n 0) none (some (unpacked_text n))
 
 -- p, if its decomposition is a, b
 abbrev pub verified : ℕ → ℕ → ℕ → Option ℕ
-verified a b p = pickPoint (same (decomposition unicode16 p) (a ∷ b ∷ [])) (some p) none
+verified a b p = pick_point (same (decomposition unicode16 p) (a ∷ b ∷ [])) (some p) none

@@ -2,7 +2,7 @@
 -- point can be further decomposed. `depth` passes do that: `Facts` says that nothing decomposes after them.
 use Rattle.std.specs.Prelude.{◌≡◌, List, [], ◌∷◌, ◌++◌, ℕ, zero, suc}
 use Rattle.std.proofs.Math.Option.{some}
-use Rattle.ucd.specs.Table.{Table, All, Atom, decomposition, combiningClass, composite}
+use Rattle.ucd.specs.Table.{Table, All, Atom, decomposition, combining_class, composite}
 
 module _ (t : Table) where
   -- one pass: each code point gives way to its decomposition
@@ -24,4 +24,4 @@ pub record Facts (t : Table) : Type 0 where
   -- a composite's decomposition is the two that it is made of
   pub decomposes : (a b p : ℕ) → composite t a b ≡ some p → decomposition t p ≡ a ∷ b ∷ []
   -- a composite is a starter
-  pub starter : (a b p : ℕ) → composite t a b ≡ some p → combiningClass t p ≡ 0
+  pub starter : (a b p : ℕ) → composite t a b ≡ some p → combining_class t p ≡ 0

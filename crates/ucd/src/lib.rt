@@ -2,9 +2,9 @@
 #![tactic(auto)]
 
 ghost use Rattle.std.specs.Prelude.{◌≡◌};
-ghost use Rattle.ucd.specs.Table.{member, mapping, combiningClass, composite};
+ghost use Rattle.ucd.specs.Table.{member, mapping, combining_class, composite};
 ghost use Rattle.ucd.specs.Unicode16.{unicode16};
-ghost use Rattle.ucd.specs.Answer.{said, pointOf};
+ghost use Rattle.ucd.specs.Answer.{said, point_of};
 
 mod table;
 
@@ -71,7 +71,7 @@ pub fn decomposition(c: u16) -> Mapping
 
 // The combining class of c.
 pub fn combining_class(c: u16) -> u8
-    ensures { result ≡ combiningClass unicode16 c }
+    ensures { result ≡ combining_class unicode16 c }
 {
     if c < 0x0300 {
         return 0;
@@ -88,7 +88,7 @@ pub enum Made {
 
 // The composite of a and b: the candidate for them, if its decomposition is a, b.
 pub fn composite(a: u16, b: u16) -> Made
-    ensures { pointOf result ≡ composite unicode16 a b }
+    ensures { point_of result ≡ composite unicode16 a b }
 {
     if b < 0x0300 {
         return Made::Nothing;

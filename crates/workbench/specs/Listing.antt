@@ -4,8 +4,8 @@ use Rattle.ji.specs.Unicode.{unicode16}
 use Rattle.ji.specs.Reply.{Reply, over}
 use Rattle.khiin_entries.specs.Listing.{together, shown}
 
-abbrev pub linesCall : List (List ℕ) → ℕ → List ℕ → Reply
-linesCall lines from buffer =
+abbrev pub lines_call : List (List ℕ) → ℕ → List ℕ → Reply
+lines_call lines from buffer =
     record {
       code = 0;
       length = length (together lines);
@@ -17,5 +17,5 @@ linesCall lines from buffer =
       buffer = over (together lines) buffer;
     }
 
-abbrev pub listingCall : List ℕ → ℕ → List ℕ → Reply
-listingCall entry from buffer = linesCall (shown unicode16 entry from (length buffer)) from buffer
+abbrev pub listing_call : List ℕ → ℕ → List ℕ → Reply
+listing_call entry from buffer = lines_call (shown unicode16 entry from (length buffer)) from buffer

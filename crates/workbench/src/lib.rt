@@ -3,14 +3,14 @@
 
 ghost use Rattle.std.specs.Prelude.{◌≡◌, []};
 ghost use Rattle.ji.specs.Unicode.{unicode16};
-ghost use Rattle.ji.specs.Reply.{textCall};
+ghost use Rattle.ji.specs.Reply.{text_call};
 ghost use Rattle.ji.specs.Nfd.{nfd};
 ghost use Rattle.ji.specs.Nfc.{nfc};
-ghost use Rattle.ji.specs.Lomaji.ToneLetter.{hasToneLetterCall};
-ghost use Rattle.robinflint.specs.Reply.{replyOf};
-ghost use Rattle.workbench.specs.Khin.{khinCall};
-ghost use Rattle.workbench.specs.Keys.{formOf, keysCall};
-ghost use Rattle.workbench.specs.Listing.{listingCall};
+ghost use Rattle.ji.specs.Lomaji.ToneLetter.{has_tone_letter_call};
+ghost use Rattle.robinflint.specs.Reply.{reply_of};
+ghost use Rattle.workbench.specs.Khin.{khin_call};
+ghost use Rattle.workbench.specs.Keys.{form_of, keys_call};
+ghost use Rattle.workbench.specs.Listing.{listing_call};
 
 use ji::lomaji::keys::Form;
 use ji::lomaji::tone_letter::HasToneLetter;
@@ -24,21 +24,21 @@ use robinflint::reply::Reply;
 
 // NFD of the text. Refuses with 2, 3, 4, 7.
 pub fn wb_nfd(text: &[u8], out: &mut [u8]) -> Reply
-    ensures { replyOf result out.new ≡ textCall unicode16 (nfd unicode16) text.now out.old }
+    ensures { reply_of result out.new ≡ text_call unicode16 (nfd unicode16) text.now out.old }
 {
     reply::text(nfd::to_nfd(text, out))
 }
 
 // NFC of the text. Refuses with 2, 3, 4, 7.
 pub fn wb_nfc(text: &[u8], out: &mut [u8]) -> Reply
-    ensures { replyOf result out.new ≡ textCall unicode16 (nfc unicode16) text.now out.old }
+    ensures { reply_of result out.new ≡ text_call unicode16 (nfc unicode16) text.now out.old }
 {
     reply::text(nfc::to_nfc(text, out))
 }
 
 // What `strip_khin` hands back: the length of the rest, where it begins, and whether there was a mark.
 pub fn wb_strip_khin(text: &[u8]) -> Reply
-    ensures { replyOf result [] ≡ khinCall text.now }
+    ensures { reply_of result [] ≡ khin_call text.now }
 {
     let rest = khin::strip_khin(text);
     Reply {
@@ -54,7 +54,7 @@ pub fn wb_strip_khin(text: &[u8]) -> Reply
 
 // Whether the NFD of the text has a tone letter: length 1, or 0. Refuses with 2, 3, 4.
 pub fn wb_has_tone_letter(text: &[u8]) -> Reply
-    ensures { replyOf result [] ≡ hasToneLetterCall unicode16 text.now }
+    ensures { reply_of result [] ≡ has_tone_letter_call unicode16 text.now }
 {
     match tone_letter::has_tone_letter(text) {
         HasToneLetter::Refused(why) => reply::refuse(why),
@@ -65,7 +65,7 @@ pub fn wb_has_tone_letter(text: &[u8]) -> Reply
 
 // The keys of a syllable: form 0 plain, 1 `_oo`; kind 0 detoned, 1 numeric, 2 telex. Refuses with 1, 2, 3, 4, 7.
 pub fn wb_keys(text: &[u8], form: u64, kind: u64, out: &mut [u8]) -> Reply
-    ensures { replyOf result out.new ≡ keysCall form kind text.now out.old }
+    ensures { reply_of result out.new ≡ keys_call form kind text.now out.old }
 {
     if 1 < form {
         return reply::refuse(Refusal::Argument);
@@ -77,7 +77,7 @@ pub fn wb_keys(text: &[u8], form: u64, kind: u64, out: &mut [u8]) -> Reply
 }
 
 fn form_of(number: u64) -> Form
-    ensures { result ≡ formOf number }
+    ensures { result ≡ form_of number }
 {
     if number == 0 {
         return Form::Plain;
@@ -88,7 +88,7 @@ fn form_of(number: u64) -> Form
 // The lines of an entry's listing from number `from` on, as many as go into `out` whole: as the length how many bytes, as the count how many lines,
 // and as the position the number of the next line. An entry that is refused has one line, which says so.
 pub fn wb_listing(entry: &[u8], from: u64, out: &mut [u8]) -> Reply
-    ensures { replyOf result out.new ≡ listingCall entry.now from out.old }
+    ensures { reply_of result out.new ≡ listing_call entry.now from out.old }
 {
     let listed = listing::list(entry, from, out);
     let len = listed.len;

@@ -6,20 +6,20 @@ use mathlib.Core.List.{List, [], ◌∷◌}
 use Prim.Native.Nat.{ℕ}
 use lib.Dec.{eqb}
 use Rattle.ucd.specs.Table.{same, listed}
-pub use Rattle.ucd.proofs.Tests.{same-equal, same-itself}
-pub use Rattle.ji.proofs.utf8.Encoding.{bytes-one, bytes-two, bytes-three, bytes-four, encode-nil, encode-cons, encode-append, encode-most}
-pub use Rattle.ji.proofs.utf8.RoundTrip.{decode-encode, encode-decode}
-pub use Rattle.ji.proofs.utf8.OneToOne.{bytes-some, fewer, encode-one-to-one, same-bytes, begins-bytes, drop-bytes}
-pub use Rattle.ji.proofs.utf8.Last.{but-last, last-skip, start-bytes, front-bytes, point-bytes}
+pub use Rattle.ucd.proofs.Tests.{same_equal, same_itself}
+pub use Rattle.ji.proofs.utf8.Encoding.{bytes_one, bytes_two, bytes_three, bytes_four, encode_nil, encode_cons, encode_append, encode_most}
+pub use Rattle.ji.proofs.utf8.RoundTrip.{decode_encode, encode_decode}
+pub use Rattle.ji.proofs.utf8.OneToOne.{bytes_some, fewer, encode_one_to_one, same_bytes, begins_bytes, drop_bytes}
+pub use Rattle.ji.proofs.utf8.Last.{but_last_law, last_skip, start_bytes, front_bytes, point_bytes}
 
-pub listed-nil : (c : ℕ) → listed [] c ≡ false
+pub listed_nil : (c : ℕ) → listed [] c ≡ false
 unfolding listed
-listed-nil c = refl
+listed_nil c = refl
 
-pub listed-cons : (x : ℕ) (xs : List ℕ) (c : ℕ) → listed (x ∷ xs) c ≡ (eqb x c || listed xs c)
+pub listed_cons : (x : ℕ) (xs : List ℕ) (c : ℕ) → listed (x ∷ xs) c ≡ (eqb x c || listed xs c)
 unfolding listed
-listed-cons x xs c = refl
+listed_cons x xs c = refl
 
-pub same-cons : (x y : ℕ) (xs ys : List ℕ) → same (x ∷ xs) (y ∷ ys) ≡ (eqb x y && same xs ys)
+pub same_cons : (x y : ℕ) (xs ys : List ℕ) → same (x ∷ xs) (y ∷ ys) ≡ (eqb x y && same xs ys)
 unfolding same
-same-cons x y xs ys = refl
+same_cons x y xs ys = refl

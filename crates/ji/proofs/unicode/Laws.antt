@@ -7,123 +7,123 @@ use native.Mathlib.Omega.{arith}
 use borrow.Author.Tests.{eq-eqb, ne_eqb}
 use lib.ListN.{length, drop, get_or, drop_of_length-le}
 use lib.Seq.{drop-cons, drop-drop}
-use Rattle.ucd.specs.Table.{Table, All, member, mapping, decomposition, mappingIn}
+use Rattle.ucd.specs.Table.{Table, All, member, mapping, decomposition, mapping_in}
 use Rattle.ucd.specs.Full.{full, pass, passes}
 use Rattle.ucd.specs.Answer.{said}
-use Rattle.ucd.proofs.Answer.{textOf, text-told}
+use Rattle.ucd.proofs.Answer.{text_of, text_told}
 use Rattle.ucd.specs.declared.Mapping.{Mapping}
 use Rattle.ucd.specs.Unicode16.{unicode16, mappings16}
-use Rattle.ucd.proofs.Unicode16.{low-atom, full-itself, full-length}
-use Rattle.ji.specs.Utf8.{widthAt, pointAt}
-use Rattle.ji.specs.Unicode.{members, acceptedFrom, accepted, spread}
-use Rattle.ji.proofs.Bools.{and-yes, and-no, and-left, and-right, text-yes, text-no}
-use Rattle.ji.proofs.Decomposition.{full-nil, full-append}
-use Rattle.ji.proofs.utf8.Decoding.{drop-rest}
+use Rattle.ucd.proofs.Unicode16.{low_atom, full_itself, full_length}
+use Rattle.ji.specs.Utf8.{width_at, point_at}
+use Rattle.ji.specs.Unicode.{members, accepted_from, accepted, spread}
+use Rattle.ji.proofs.Bools.{and_yes, and_no, and_left, and_right, text_yes, text_no}
+use Rattle.ji.proofs.Decomposition.{full_nil, full_append}
+use Rattle.ji.proofs.utf8.Decoding.{drop_rest}
 
 -- ── what a code point spreads to
 -- what the lookup told of a code point is its decomposition
-pub told : (c : ℕ) {answer x : Mapping} → said answer ≡ mapping unicode16 c → answer ≡ x → decomposition unicode16 c ≡ textOf c x
-told c {answer} says is = sym (text-told unicode16 c answer says) ∙ ap (textOf c) is
+pub told : (c : ℕ) {answer x : Mapping} → said answer ≡ mapping unicode16 c → answer ≡ x → decomposition unicode16 c ≡ text_of c x
+told c {answer} says is = sym (text_told unicode16 c answer says) ∙ ap (text_of c) is
 
 module _ (t : Table) where
-  pub spread-nil : (d : Bool) → spread t d [] ≡ []
+  pub spread_nil : (d : Bool) → spread t d [] ≡ []
   unfolding spread
-  spread-nil true = full-nil t
-  spread-nil false = refl
+  spread_nil true = full_nil t
+  spread_nil false = refl
 
-  pub spread-append : (d : Bool) (s u : List ℕ) → spread t d (s ++ u) ≡ spread t d s ++ spread t d u
+  pub spread_append : (d : Bool) (s u : List ℕ) → spread t d (s ++ u) ≡ spread t d s ++ spread t d u
   unfolding spread
-  spread-append true s u = full-append t s u
-  spread-append false s u = refl
+  spread_append true s u = full_append t s u
+  spread_append false s u = refl
 
-  pub spread-full : (s : List ℕ) → spread t true s ≡ full t s
+  pub spread_full : (s : List ℕ) → spread t true s ≡ full t s
   unfolding spread
-  spread-full s = refl
+  spread_full s = refl
 
-  pub spread-plain : (s : List ℕ) → spread t false s ≡ s
+  pub spread_plain : (s : List ℕ) → spread t false s ≡ s
   unfolding spread
-  spread-plain s = refl
+  spread_plain s = refl
 
 -- a code point takes at most three, and one of a single byte takes one
-pub spread-length : (d : Bool) (c : ℕ) → length (spread unicode16 d (c ∷ [])) ≤ 3
+pub spread_length : (d : Bool) (c : ℕ) → length (spread unicode16 d (c ∷ [])) ≤ 3
 unfolding spread
-spread-length true c = full-length c
-spread-length false c = omega arith
+spread_length true c = full_length c
+spread_length false c = omega arith
 
 -- what lies below 00C0 stays as it is
-pub spread-itself : (d : Bool) (c : ℕ) → c < 0xC0 → spread unicode16 d (c ∷ []) ≡ c ∷ []
+pub spread_itself : (d : Bool) (c : ℕ) → c < 0xC0 → spread unicode16 d (c ∷ []) ≡ c ∷ []
 unfolding spread
-spread-itself true c h = full-itself c (low-atom c h)
-spread-itself false c h = refl
+spread_itself true c h = full_itself c (low_atom c h)
+spread_itself false c h = refl
 
-pub spread-low : (d : Bool) (c : ℕ) → c < 0xC0 → length (spread unicode16 d (c ∷ [])) ≡ 1
-spread-low d c h = ap length (spread-itself d c h)
+pub spread_low : (d : Bool) (c : ℕ) → c < 0xC0 → length (spread unicode16 d (c ∷ [])) ≡ 1
+spread_low d c h = ap length (spread_itself d c h)
 
 -- ── which texts are accepted
 module _ (t : Table) where
-  pub members-append : (s u : List ℕ) → members t s ≡ true → members t (s ++ u) ≡ members t u
+  pub members_append : (s u : List ℕ) → members t s ≡ true → members t (s ++ u) ≡ members t u
   unfolding members
-  members-append [] u h = refl
-  members-append (c ∷ s) u h = and-yes _ _ (and-left (member t c) (members t s) h) ∙ members-append s u (and-right (member t c) (members t s) h)
+  members_append [] u h = refl
+  members_append (c ∷ s) u h = and_yes _ _ (and_left (member t c) (members t s) h) ∙ members_append s u (and_right (member t c) (members t s) h)
 
-  pub members-not : (s : List ℕ) (c : ℕ) (u : List ℕ) → members t s ≡ true → member t c ≡ false → members t (s ++ (c ∷ u)) ≡ false
+  pub members_not : (s : List ℕ) (c : ℕ) (u : List ℕ) → members t s ≡ true → member t c ≡ false → members t (s ++ (c ∷ u)) ≡ false
   unfolding members
-  members-not s c u h k = members-append s (c ∷ u) h ∙ and-no _ _ k
+  members_not s c u h k = members_append s (c ∷ u) h ∙ and_no _ _ k
 
-  pub members-one : (c : ℕ) → member t c ≡ true → members t (c ∷ []) ≡ true
+  pub members_one : (c : ℕ) → member t c ≡ true → members t (c ∷ []) ≡ true
   unfolding members
-  members-one c h = and-yes _ _ h
+  members_one c h = and_yes _ _ h
 
-  pub members-all : (P : ℕ → Type 0) → ((c : ℕ) → member t c ≡ true → P c) → (s : List ℕ) → members t s ≡ true → All P s
+  pub members_all : (P : ℕ → Type 0) → ((c : ℕ) → member t c ≡ true → P c) → (s : List ℕ) → members t s ≡ true → All P s
   unfolding members
-  members-all P f [] h = tt
-  members-all P f (c ∷ s) h = (f c (and-left (member t c) (members t s) h), members-all P f s (and-right (member t c) (members t s) h))
+  members_all P f [] h = tt
+  members_all P f (c ∷ s) h = (f c (and_left (member t c) (members t s) h), members_all P f s (and_right (member t c) (members t s) h))
 
-  skipped : (k : ℕ) (s : List ℕ) → acceptedFrom t k s ≡ acceptedFrom t 0 (drop k s)
-  unfolding acceptedFrom
+  skipped : (k : ℕ) (s : List ℕ) → accepted_from t k s ≡ accepted_from t 0 (drop k s)
+  unfolding accepted_from
   skipped zero s = refl
   skipped (suc k) [] = refl
   skipped (suc k) (b ∷ s) = skipped k s
 
-  stops-ill : (b : ℕ) (s : List ℕ) → widthAt (b ∷ s) ≡ 0 → accepted t (b ∷ s) ≡ []
-  unfolding accepted acceptedFrom
-  stops-ill b s e = text-yes _ _ _ (eq-eqb (widthAt (b ∷ s)) 0 e)
+  stops_ill : (b : ℕ) (s : List ℕ) → width_at (b ∷ s) ≡ 0 → accepted t (b ∷ s) ≡ []
+  unfolding accepted accepted_from
+  stops_ill b s e = text_yes _ _ _ (eq-eqb (width_at (b ∷ s)) 0 e)
 
-  stops-outside : (b : ℕ) (s : List ℕ) → 0 < widthAt (b ∷ s) → member t (pointAt (b ∷ s)) ≡ false → accepted t (b ∷ s) ≡ []
-  unfolding accepted acceptedFrom
-  stops-outside b s h k = text-no _ _ _ (ne_eqb (widthAt (b ∷ s)) 0 (λ e. omega arith)) ∙ text-no _ _ _ k
+  stops_outside : (b : ℕ) (s : List ℕ) → 0 < width_at (b ∷ s) → member t (point_at (b ∷ s)) ≡ false → accepted t (b ∷ s) ≡ []
+  unfolding accepted accepted_from
+  stops_outside b s h k = text_no _ _ _ (ne_eqb (width_at (b ∷ s)) 0 (λ e. omega arith)) ∙ text_no _ _ _ k
 
-  goes-on : (b : ℕ) (s : List ℕ) → 0 < widthAt (b ∷ s) → member t (pointAt (b ∷ s)) ≡ true → accepted t (b ∷ s) ≡ pointAt (b ∷ s) ∷ accepted t (drop (widthAt (b ∷ s)) (b ∷ s))
-  unfolding accepted acceptedFrom
-  goes-on b s h k =
-      text-no _ _ _ (ne_eqb (widthAt (b ∷ s)) 0 (λ e. omega arith)) ∙ text-yes _ _ _ k
-      ∙ ap (λ (l : List ℕ). pointAt (b ∷ s) ∷ l) (skipped (widthAt (b ∷ s) - 1) s ∙ ap (acceptedFrom t 0) (drop-rest (widthAt (b ∷ s)) b s h))
+  goes_on : (b : ℕ) (s : List ℕ) → 0 < width_at (b ∷ s) → member t (point_at (b ∷ s)) ≡ true → accepted t (b ∷ s) ≡ point_at (b ∷ s) ∷ accepted t (drop (width_at (b ∷ s)) (b ∷ s))
+  unfolding accepted accepted_from
+  goes_on b s h k =
+      text_no _ _ _ (ne_eqb (width_at (b ∷ s)) 0 (λ e. omega arith)) ∙ text_yes _ _ _ k
+      ∙ ap (λ (l : List ℕ). point_at (b ∷ s) ∷ l) (skipped (width_at (b ∷ s) - 1) s ∙ ap (accepted_from t 0) (drop_rest (width_at (b ∷ s)) b s h))
 
   -- the same at a place
   module _ (s : List ℕ) (i : ℕ) (h : i < length s) where
     here : drop i s ≡ get_or s i 0 ∷ drop (suc i) s
     here = drop-cons s i 0 h
 
-    pub accepted-ill : widthAt (drop i s) ≡ 0 → accepted t (drop i s) ≡ []
-    accepted-ill e = ap (accepted t) here ∙ stops-ill (get_or s i 0) (drop (suc i) s) (ap widthAt (sym here) ∙ e)
+    pub accepted_ill : width_at (drop i s) ≡ 0 → accepted t (drop i s) ≡ []
+    accepted_ill e = ap (accepted t) here ∙ stops_ill (get_or s i 0) (drop (suc i) s) (ap width_at (sym here) ∙ e)
 
-    pub accepted-outside : 0 < widthAt (drop i s) → member t (pointAt (drop i s)) ≡ false → accepted t (drop i s) ≡ []
-    accepted-outside k m =
+    pub accepted_outside : 0 < width_at (drop i s) → member t (point_at (drop i s)) ≡ false → accepted t (drop i s) ≡ []
+    accepted_outside k m =
         ap (accepted t) here
-        ∙ stops-outside (get_or s i 0) (drop (suc i) s) (subst (λ (l : List ℕ). 0 < widthAt l) here k) (ap (λ (l : List ℕ). member t (pointAt l)) (sym here) ∙ m)
+        ∙ stops_outside (get_or s i 0) (drop (suc i) s) (subst (λ (l : List ℕ). 0 < width_at l) here k) (ap (λ (l : List ℕ). member t (point_at l)) (sym here) ∙ m)
 
-    pub accepted-at : 0 < widthAt (drop i s) → member t (pointAt (drop i s)) ≡ true → accepted t (drop i s) ≡ pointAt (drop i s) ∷ accepted t (drop (i + widthAt (drop i s)) s)
-    accepted-at k m =
+    pub accepted_at : 0 < width_at (drop i s) → member t (point_at (drop i s)) ≡ true → accepted t (drop i s) ≡ point_at (drop i s) ∷ accepted t (drop (i + width_at (drop i s)) s)
+    accepted_at k m =
         ap (accepted t) here
-        ∙ goes-on (get_or s i 0) (drop (suc i) s) (subst (λ (l : List ℕ). 0 < widthAt l) here k) (ap (λ (l : List ℕ). member t (pointAt l)) (sym here) ∙ m)
-        ∙ ap (λ (l : List ℕ). pointAt l ∷ accepted t (drop (widthAt l) l)) (sym here)
-        ∙ ap (λ (l : List ℕ). pointAt (drop i s) ∷ accepted t l) (drop-drop (widthAt (drop i s)) i s)
+        ∙ goes_on (get_or s i 0) (drop (suc i) s) (subst (λ (l : List ℕ). 0 < width_at l) here k) (ap (λ (l : List ℕ). member t (point_at l)) (sym here) ∙ m)
+        ∙ ap (λ (l : List ℕ). point_at l ∷ accepted t (drop (width_at l) l)) (sym here)
+        ∙ ap (λ (l : List ℕ). point_at (drop i s) ∷ accepted t l) (drop-drop (width_at (drop i s)) i s)
 
-  pub accepted-end : (s : List ℕ) (i : ℕ) → length s ≤ i → accepted t (drop i s) ≡ []
-  unfolding accepted acceptedFrom
-  accepted-end s i h = ap (accepted t) (drop_of_length-le s h)
+  pub accepted_end : (s : List ℕ) (i : ℕ) → length s ≤ i → accepted t (drop i s) ≡ []
+  unfolding accepted accepted_from
+  accepted_end s i h = ap (accepted t) (drop_of_length-le s h)
 
 -- the dot of o+0358 decomposes no further
-pub dot-full : full unicode16 (0x0358 ∷ []) ≡ 0x0358 ∷ []
-unfolding full passes pass decomposition unicode16 mappingIn mappings16
-dot-full = refl
+pub dot_full : full unicode16 (0x0358 ∷ []) ≡ 0x0358 ∷ []
+unfolding full passes pass decomposition unicode16 mapping_in mappings16
+dot_full = refl

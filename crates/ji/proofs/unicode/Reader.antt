@@ -10,84 +10,84 @@ use lib.Dec.{eqb}
 use lib.ListN.{length, take, drop, length-drop, length-append}
 use borrow.Author.Tests.{eqb-false}
 use lib.Seq.{paste}
-use Rattle.ucd.specs.Table.{Table, member, pickText}
+use Rattle.ucd.specs.Table.{Table, member, pick_text}
 use Rattle.ucd.specs.Unicode16.{unicode16}
 use Rattle.ji.specs.Written.{Written}
-use Rattle.ji.specs.Utf8.{widthAt, pointAt, more, decode, isDecoded, bytesOf}
-use Rattle.ji.specs.Unicode.{members, acceptedFrom, accepted, spread}
-use Rattle.ji.specs.Reply.{good, bad, pickChecked, checkPoints}
-use Rattle.ji.specs.Reading.{faultIn, Reading}
+use Rattle.ji.specs.Utf8.{width_at, point_at, more, decode, is_decoded, bytes_of}
+use Rattle.ji.specs.Unicode.{members, accepted_from, accepted, spread}
+use Rattle.ji.specs.Reply.{good, bad, pick_checked, check_points}
+use Rattle.ji.specs.Reading.{fault_in, Reading}
 use Rattle.ji.specs.declared.reply.Refusal.TheVariants.{IllFormed, OutsideTable}
 use Rattle.ji.specs.declared.unicode.Decoded.TheVariants.{Points, Refused}
-use Rattle.ji.proofs.Bools.{false-true}
-use Rattle.ji.proofs.Writing.{written-none, written-run}
-use Rattle.ji.proofs.utf8.Encoding.{bytes-one, bytes-two, bytes-three, bytes-four}
-use Rattle.ji.proofs.utf8.Decoding.{width-length, decode-at-ill, decode-at, decode-end}
-use Rattle.ji.proofs.utf8.RoundTrip.{bytes-back}
-use Rattle.ji.proofs.unicode.Laws.{spread-nil, spread-append, spread-length, spread-low, members-append, members-not, members-one, accepted-ill, accepted-outside, accepted-at}
+use Rattle.ji.proofs.Bools.{false_true}
+use Rattle.ji.proofs.Writing.{written_none, written_run}
+use Rattle.ji.proofs.utf8.Encoding.{bytes_one, bytes_two, bytes_three, bytes_four}
+use Rattle.ji.proofs.utf8.Decoding.{width_length, decode_at_ill, decode_at, decode_end}
+use Rattle.ji.proofs.utf8.RoundTrip.{bytes_back}
+use Rattle.ji.proofs.unicode.Laws.{spread_nil, spread_append, spread_length, spread_low, members_append, members_not, members_one, accepted_ill, accepted_outside, accepted_at}
 
 -- ── room: a text of n bytes spreads to at most three code points for two bytes
-bytes-many : (c : ℕ) → 0x7F < c → 2 ≤ length (bytesOf c)
-bytes-many c h = by-size (dec_le c 0x7FF) (dec_le c 0xFFFF)
+bytes_many : (c : ℕ) → 0x7F < c → 2 ≤ length (bytes_of c)
+bytes_many c h = by_size (dec_le c 0x7FF) (dec_le c 0xFFFF)
   where
-    by-size : Dec (c ≤ 0x7FF) → Dec (c ≤ 0xFFFF) → 2 ≤ length (bytesOf c)
-    by-size (yes k) q = omega (arith, ap length (bytes-two c h k))
-    by-size (no k) (yes l) = omega (arith, ap length (bytes-three c (omega arith) l))
-    by-size (no k) (no l) = omega (arith, ap length (bytes-four c (omega arith)))
+    by_size : Dec (c ≤ 0x7FF) → Dec (c ≤ 0xFFFF) → 2 ≤ length (bytes_of c)
+    by_size (yes k) q = omega (arith, ap length (bytes_two c h k))
+    by_size (no k) (yes l) = omega (arith, ap length (bytes_three c (omega arith) l))
+    by_size (no k) (no l) = omega (arith, ap length (bytes_four c (omega arith)))
 
-pub spread-bytes : (d : Bool) (c : ℕ) → 2 * length (spread unicode16 d (c ∷ [])) ≤ 3 * length (bytesOf c)
-spread-bytes d c = by-size (dec_le c 0x7F)
+pub spread_bytes : (d : Bool) (c : ℕ) → 2 * length (spread unicode16 d (c ∷ [])) ≤ 3 * length (bytes_of c)
+spread_bytes d c = by_size (dec_le c 0x7F)
   where
-    by-size : Dec (c ≤ 0x7F) → 2 * length (spread unicode16 d (c ∷ [])) ≤ 3 * length (bytesOf c)
-    by-size (yes h) = omega (arith, spread-low d c (omega arith), ap length (bytes-one c h))
-    by-size (no h) = omega (arith, spread-length d c, bytes-many c (omega arith))
+    by_size : Dec (c ≤ 0x7F) → 2 * length (spread unicode16 d (c ∷ [])) ≤ 3 * length (bytes_of c)
+    by_size (yes h) = omega (arith, spread_low d c (omega arith), ap length (bytes_one c h))
+    by_size (no h) = omega (arith, spread_length d c, bytes_many c (omega arith))
 
-take-most : (n : ℕ) (s : List ℕ) → length (take n s) ≤ n
-take-most zero s = omega arith
-take-most (suc n) [] = omega arith
-take-most (suc n) (x ∷ s) = omega (arith, take-most n s)
+take_most : (n : ℕ) (s : List ℕ) → length (take n s) ≤ n
+take_most zero s = omega arith
+take_most (suc n) [] = omega arith
+take_most (suc n) (x ∷ s) = omega (arith, take_most n s)
 
-spread-first : (d : Bool) (b : ℕ) (s : List ℕ) → 0 < widthAt (b ∷ s) → 2 * length (spread unicode16 d (pointAt (b ∷ s) ∷ [])) ≤ 3 * widthAt (b ∷ s)
-spread-first d b s k =
-    omega (arith, spread-bytes d (pointAt (b ∷ s)), ap length (bytes-back b s k), take-most (widthAt (b ∷ s)) (b ∷ s))
+spread_first : (d : Bool) (b : ℕ) (s : List ℕ) → 0 < width_at (b ∷ s) → 2 * length (spread unicode16 d (point_at (b ∷ s) ∷ [])) ≤ 3 * width_at (b ∷ s)
+spread_first d b s k =
+    omega (arith, spread_bytes d (point_at (b ∷ s)), ap length (bytes_back b s k), take_most (width_at (b ∷ s)) (b ∷ s))
 
 -- a text or no text has few code points where each of the two has
-few-picked : (d b : Bool) (u v : List ℕ) (n : ℕ) → (b ≡ true → 2 * length (spread unicode16 d u) ≤ n) → (b ≡ false → 2 * length (spread unicode16 d v) ≤ n)
-    → 2 * length (spread unicode16 d (pickText b u v)) ≤ n
-few-picked d true u v n f g = f refl
-few-picked d false u v n f g = g refl
+few_picked : (d b : Bool) (u v : List ℕ) (n : ℕ) → (b ≡ true → 2 * length (spread unicode16 d u) ≤ n) → (b ≡ false → 2 * length (spread unicode16 d v) ≤ n)
+    → 2 * length (spread unicode16 d (pick_text b u v)) ≤ n
+few_picked d true u v n f g = f refl
+few_picked d false u v n f g = g refl
 
-few-none : (d : Bool) (n : ℕ) → 2 * length (spread unicode16 d []) ≤ n
-few-none d n = omega (arith, ap length (spread-nil unicode16 d))
+few_none : (d : Bool) (n : ℕ) → 2 * length (spread unicode16 d []) ≤ n
+few_none d n = omega (arith, ap length (spread_nil unicode16 d))
 
-accepted-few : (d : Bool) (skip : ℕ) (s : List ℕ) → 2 * length (spread unicode16 d (acceptedFrom unicode16 skip s)) ≤ 3 * length (drop skip s)
-unfolding acceptedFrom
-accepted-few d skip [] = few-none d _
-accepted-few d zero (b ∷ s) =
-    few-picked d (eqb (widthAt (b ∷ s)) 0) [] _ _ (λ e. few-none d _)
+accepted_few : (d : Bool) (skip : ℕ) (s : List ℕ) → 2 * length (spread unicode16 d (accepted_from unicode16 skip s)) ≤ 3 * length (drop skip s)
+unfolding accepted_from
+accepted_few d skip [] = few_none d _
+accepted_few d zero (b ∷ s) =
+    few_picked d (eqb (width_at (b ∷ s)) 0) [] _ _ (λ e. few_none d _)
     (λ e.
-    let k : 0 < widthAt (b ∷ s) = let ne = eqb-false (widthAt (b ∷ s)) 0 e in omega arith in
-    few-picked d (member unicode16 (pointAt (b ∷ s))) _ [] _
+    let k : 0 < width_at (b ∷ s) = let ne = eqb-false (width_at (b ∷ s)) 0 e in omega arith in
+    few_picked d (member unicode16 (point_at (b ∷ s))) _ [] _
     (λ m.
     omega (
       arith,
-      ap length (spread-append unicode16 d (pointAt (b ∷ s) ∷ []) (acceptedFrom unicode16 (widthAt (b ∷ s) - 1) s)),
-      length-append (spread unicode16 d (pointAt (b ∷ s) ∷ [])) (spread unicode16 d (acceptedFrom unicode16 (widthAt (b ∷ s) - 1) s)),
-      spread-first d b s k,
-      accepted-few d (widthAt (b ∷ s) - 1) s,
-      width-length (b ∷ s),
-      length-drop (widthAt (b ∷ s) - 1) s,
+      ap length (spread_append unicode16 d (point_at (b ∷ s) ∷ []) (accepted_from unicode16 (width_at (b ∷ s) - 1) s)),
+      length-append (spread unicode16 d (point_at (b ∷ s) ∷ [])) (spread unicode16 d (accepted_from unicode16 (width_at (b ∷ s) - 1) s)),
+      spread_first d b s k,
+      accepted_few d (width_at (b ∷ s) - 1) s,
+      width_length (b ∷ s),
+      length-drop (width_at (b ∷ s) - 1) s,
     ))
-    (λ m. few-none d _))
-accepted-few d (suc skip) (b ∷ s) = accepted-few d skip s
+    (λ m. few_none d _))
+accepted_few d (suc skip) (b ∷ s) = accepted_few d skip s
 
-pub spread-room : (d : Bool) (s : List ℕ) → 2 * length (spread unicode16 d (accepted unicode16 s)) ≤ 3 * length s
+pub spread_room : (d : Bool) (s : List ℕ) → 2 * length (spread unicode16 d (accepted unicode16 s)) ≤ 3 * length s
 unfolding accepted
-spread-room d s = accepted-few d 0 s
+spread_room d s = accepted_few d 0 s
 
 -- no sequence reaches past the end
-pub width-within : (s : List ℕ) (i : ℕ) → i < length s → i + widthAt (drop i s) ≤ length s
-width-within s i h = omega (arith, width-length (drop i s), length-drop i s)
+pub width_within : (s : List ℕ) (i : ℕ) → i < length s → i + width_at (drop i s) ≤ length s
+width_within s i h = omega (arith, width_length (drop i s), length-drop i s)
 
 -- ── the loop
 -- code points in front of what is still to be decoded
@@ -95,13 +95,13 @@ abbrev onto : List ℕ → Option (List ℕ) → Option (List ℕ)
 onto w none = none
 onto w (some s) = some (w ++ s)
 
-onto-nil : (o : Option (List ℕ)) → o ≡ onto [] o
-onto-nil none = refl
-onto-nil (some s) = refl
+onto_nil : (o : Option (List ℕ)) → o ≡ onto [] o
+onto_nil none = refl
+onto_nil (some s) = refl
 
-onto-more : (w : List ℕ) (x : ℕ) (o : Option (List ℕ)) → onto w (more x o) ≡ onto (w ++ (x ∷ [])) o
-onto-more w x none = refl
-onto-more w x (some s) = ap some (sym (append_assoc w (x ∷ []) s))
+onto_more : (w : List ℕ) (x : ℕ) (o : Option (List ℕ)) → onto w (more x o) ≡ onto (w ++ (x ∷ [])) o
+onto_more w x none = refl
+onto_more w x (some s) = ap some (sym (append_assoc w (x ∷ []) s))
 
 -- the first i bytes of s are read: their code points are the text u, all of it in the table
 pub record Taken (t : Table) (s u : List ℕ) (i : ℕ) : Type 0 where
@@ -110,50 +110,50 @@ pub record Taken (t : Table) (s u : List ℕ) (i : ℕ) : Type 0 where
   pub stops : accepted t s ≡ u ++ accepted t (drop i s)
 
 module _ (t : Table) (s : List ℕ) where
-  pub taken-start : Taken t s [] 0
+  pub taken_start : Taken t s [] 0
   unfolding members
-  taken-start = record { inside = refl; decoded = onto-nil (decode s); stops = refl }
+  taken_start = record { inside = refl; decoded = onto_nil (decode s); stops = refl }
 
   module _ (u : List ℕ) (i : ℕ) (r : Taken t s u i) where
     -- the whole text is good
-    pub taken-end : length s ≤ i → checkPoints t (decode s) ≡ good u
-    taken-end h =
-        ap (checkPoints t) (r.decoded ∙ ap (onto u) (decode-end s i h) ∙ ap some (append-nil u))
-        ∙ ap (λ (b : Bool). pickChecked b (good u) (bad OutsideTable)) r.inside
+    pub taken_end : length s ≤ i → check_points t (decode s) ≡ good u
+    taken_end h =
+        ap (check_points t) (r.decoded ∙ ap (onto u) (decode_end s i h) ∙ ap some (append-nil u))
+        ∙ ap (λ (b : Bool). pick_checked b (good u) (bad OutsideTable)) r.inside
 
     -- nothing more is accepted: what is accepted of the text is what was taken
-    pub taken-all : accepted t (drop i s) ≡ [] → accepted t s ≡ u
-    taken-all e = r.stops ∙ ap (λ (l : List ℕ). u ++ l) e ∙ append-nil u
+    pub taken_all : accepted t (drop i s) ≡ [] → accepted t s ≡ u
+    taken_all e = r.stops ∙ ap (λ (l : List ℕ). u ++ l) e ∙ append-nil u
 
     -- what is left is ill formed
-    taken-none : decode (drop i s) ≡ none → checkPoints t (decode s) ≡ bad IllFormed
-    taken-none o = ap (checkPoints t) (r.decoded ∙ ap (onto u) o)
+    taken_none : decode (drop i s) ≡ none → check_points t (decode s) ≡ bad IllFormed
+    taken_none o = ap (check_points t) (r.decoded ∙ ap (onto u) o)
 
-    pub taken-ill : i < length s → widthAt (drop i s) ≡ 0 → checkPoints t (decode s) ≡ bad IllFormed
-    taken-ill h e = taken-none (decode-at-ill s i h e)
+    pub taken_ill : i < length s → width_at (drop i s) ≡ 0 → check_points t (decode s) ≡ bad IllFormed
+    taken_ill h e = taken_none (decode_at_ill s i h e)
 
     -- a code point outside the table: the rest decides between the two refusals
-    module _ (h : i < length s) (k : 0 < widthAt (drop i s)) (m : member t (pointAt (drop i s)) ≡ false) where
-      found : (o : Option (List ℕ)) → decode (drop (i + widthAt (drop i s)) s) ≡ o → isDecoded (more (pointAt (drop i s)) o) ≡ true → checkPoints t (decode s) ≡ bad OutsideTable
-      found none e f = absurd (false-true f)
+    module _ (h : i < length s) (k : 0 < width_at (drop i s)) (m : member t (point_at (drop i s)) ≡ false) where
+      found : (o : Option (List ℕ)) → decode (drop (i + width_at (drop i s)) s) ≡ o → is_decoded (more (point_at (drop i s)) o) ≡ true → check_points t (decode s) ≡ bad OutsideTable
+      found none e f = absurd (false_true f)
       found (some v) e f =
-          ap (checkPoints t) (r.decoded ∙ ap (onto u) (decode-at s i h k ∙ ap (more (pointAt (drop i s))) e))
-          ∙ ap (λ (b : Bool). pickChecked b (good (u ++ (pointAt (drop i s) ∷ v))) (bad OutsideTable)) (members-not t u (pointAt (drop i s)) v r.inside m)
+          ap (check_points t) (r.decoded ∙ ap (onto u) (decode_at s i h k ∙ ap (more (point_at (drop i s))) e))
+          ∙ ap (λ (b : Bool). pick_checked b (good (u ++ (point_at (drop i s) ∷ v))) (bad OutsideTable)) (members_not t u (point_at (drop i s)) v r.inside m)
 
-      pub taken-outside : checkPoints t (decode s) ≡ bad (faultIn (decode (drop i s)))
-      taken-outside = go (decode (drop i s)) refl
+      pub taken_outside : check_points t (decode s) ≡ bad (fault_in (decode (drop i s)))
+      taken_outside = go (decode (drop i s)) refl
         where
-          go : (o : Option (List ℕ)) → decode (drop i s) ≡ o → checkPoints t (decode s) ≡ bad (faultIn o)
-          go none e = taken-none e
-          go (some v) e = found (decode (drop (i + widthAt (drop i s)) s)) refl (sym (ap isDecoded (decode-at s i h k)) ∙ ap isDecoded e)
+          go : (o : Option (List ℕ)) → decode (drop i s) ≡ o → check_points t (decode s) ≡ bad (fault_in o)
+          go none e = taken_none e
+          go (some v) e = found (decode (drop (i + width_at (drop i s)) s)) refl (sym (ap is_decoded (decode_at s i h k)) ∙ ap is_decoded e)
 
     -- one more code point
-    pub taken-more : i < length s → 0 < widthAt (drop i s) → member t (pointAt (drop i s)) ≡ true → Taken t s (u ++ (pointAt (drop i s) ∷ [])) (i + widthAt (drop i s))
-    taken-more h k m =
+    pub taken_more : i < length s → 0 < width_at (drop i s) → member t (point_at (drop i s)) ≡ true → Taken t s (u ++ (point_at (drop i s) ∷ [])) (i + width_at (drop i s))
+    taken_more h k m =
         record {
-          inside = members-append t u (pointAt (drop i s) ∷ []) r.inside ∙ members-one t (pointAt (drop i s)) m;
-          decoded = r.decoded ∙ ap (onto u) (decode-at s i h k) ∙ onto-more u (pointAt (drop i s)) (decode (drop (i + widthAt (drop i s)) s));
-          stops = r.stops ∙ ap (λ (l : List ℕ). u ++ l) (accepted-at t s i h k m) ∙ sym (append_assoc u (pointAt (drop i s) ∷ []) (accepted t (drop (i + widthAt (drop i s)) s)));
+          inside = members_append t u (point_at (drop i s) ∷ []) r.inside ∙ members_one t (point_at (drop i s)) m;
+          decoded = r.decoded ∙ ap (onto u) (decode_at s i h k) ∙ onto_more u (point_at (drop i s)) (decode (drop (i + width_at (drop i s)) s));
+          stops = r.stops ∙ ap (λ (l : List ℕ). u ++ l) (accepted_at t s i h k m) ∙ sym (append_assoc u (point_at (drop i s) ∷ []) (accepted t (drop (i + width_at (drop i s)) s)));
         }
 
 -- the first i bytes of s are read, and n code points stand in the buffer
@@ -163,46 +163,46 @@ pub record Read (t : Table) (d : Bool) (s before after : List ℕ) (i n : ℕ) :
   pub written : Written before after n (spread t d taken)
 
 module _ (t : Table) (d : Bool) (s before : List ℕ) where
-  pub read-start : Read t d s before before 0 0
-  read-start = record { taken = []; text = taken-start t s; written = rw (spread-nil t d) (written-none before) }
+  pub read_start : Read t d s before before 0 0
+  read_start = record { taken = []; text = taken_start t s; written = rw (spread_nil t d) (written_none before) }
 
   module _ (after : List ℕ) (i n : ℕ) (r : Read t d s before after i n) where
     -- the buffer of a text that is refused here
     left : accepted t (drop i s) ≡ [] → Written before after (length (spread t d (accepted t s))) (spread t d (accepted t s))
-    left e = rw (taken-all t s r.taken i r.text e, r.written.size) r.written
+    left e = rw (taken_all t s r.taken i r.text e, r.written.size) r.written
 
-    pub read-end : length s ≤ i → Reading t d s before after (Points (record { 0 = n }))
-    read-end h = (r.taken, taken-end t s r.taken i r.text h, r.written)
+    pub read_end : length s ≤ i → Reading t d s before after (Points (record { 0 = n }))
+    read_end h = (r.taken, taken_end t s r.taken i r.text h, r.written)
 
     module _ (h : i < length s) where
-      pub read-ill : widthAt (drop i s) ≡ 0 → Reading t d s before after (Refused IllFormed)
-      read-ill e = (taken-ill t s r.taken i r.text h e, left (accepted-ill t s i h e))
+      pub read_ill : width_at (drop i s) ≡ 0 → Reading t d s before after (Refused IllFormed)
+      read_ill e = (taken_ill t s r.taken i r.text h e, left (accepted_ill t s i h e))
 
-      module _ (k : 0 < widthAt (drop i s)) where
-        module _ (m : member t (pointAt (drop i s)) ≡ false) where
-          pub read-outside : Reading t d s before after (Refused (faultIn (decode (drop i s))))
-          read-outside = (taken-outside t s r.taken i r.text h k m, left (accepted-outside t s i h k m))
+      module _ (k : 0 < width_at (drop i s)) where
+        module _ (m : member t (point_at (drop i s)) ≡ false) where
+          pub read_outside : Reading t d s before after (Refused (fault_in (decode (drop i s))))
+          read_outside = (taken_outside t s r.taken i r.text h k m, left (accepted_outside t s i h k m))
 
         -- a code point of the table is taken
-        module _ (m : member t (pointAt (drop i s)) ≡ true) where
+        module _ (m : member t (point_at (drop i s)) ≡ true) where
           abbrev p : ℕ
-          p = pointAt (drop i s)
+          p = point_at (drop i s)
 
           -- what is accepted of the whole text has it behind what was taken
-          pub read-room : length (spread t d (accepted t s)) ≤ length before → n + length (spread t d (p ∷ [])) ≤ length before
-          read-room room =
-              let rest = accepted t (drop (i + widthAt (drop i s)) s) in
+          pub read_room : length (spread t d (accepted t s)) ≤ length before → n + length (spread t d (p ∷ [])) ≤ length before
+          read_room room =
+              let rest = accepted t (drop (i + width_at (drop i s)) s) in
               let all : spread t d (accepted t s) ≡ spread t d r.taken ++ (spread t d (p ∷ []) ++ spread t d rest) =
-              ap (spread t d) (r.text.stops ∙ ap (λ (l : List ℕ). r.taken ++ l) (accepted-at t s i h k m))
-              ∙ spread-append t d r.taken (p ∷ rest)
-              ∙ ap (λ (l : List ℕ). spread t d r.taken ++ l) (spread-append t d (p ∷ []) rest) in
+              ap (spread t d) (r.text.stops ∙ ap (λ (l : List ℕ). r.taken ++ l) (accepted_at t s i h k m))
+              ∙ spread_append t d r.taken (p ∷ rest)
+              ∙ ap (λ (l : List ℕ). spread t d r.taken ++ l) (spread_append t d (p ∷ []) rest) in
               omega (arith, room, ap length all, length-append (spread t d r.taken) (spread t d (p ∷ []) ++ spread t d rest), length-append (spread t d (p ∷ [])) (spread t d rest), r.written.size)
 
-          pub read-more : n + length (spread t d (p ∷ [])) ≤ length before
-              → Read t d s before (paste after n (spread t d (p ∷ [])) (length (spread t d (p ∷ [])))) (i + widthAt (drop i s)) (n + length (spread t d (p ∷ [])))
-          read-more room =
+          pub read_more : n + length (spread t d (p ∷ [])) ≤ length before
+              → Read t d s before (paste after n (spread t d (p ∷ [])) (length (spread t d (p ∷ [])))) (i + width_at (drop i s)) (n + length (spread t d (p ∷ [])))
+          read_more room =
               record {
                 taken = r.taken ++ (p ∷ []);
-                text = taken-more t s r.taken i r.text h k m;
-                written = rw (spread-append t d r.taken (p ∷ [])) (written-run r.written (spread t d (p ∷ [])) room);
+                text = taken_more t s r.taken i r.text h k m;
+                written = rw (spread_append t d r.taken (p ∷ [])) (written_run r.written (spread t d (p ∷ [])) room);
               }

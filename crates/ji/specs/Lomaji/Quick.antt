@@ -5,8 +5,8 @@ use Rattle.ucd.specs.Unicode16.{unicode16}
 use Rattle.ji.specs.Written.{Written}
 use Rattle.ji.specs.Utf8.{decode, encode}
 use Rattle.ji.specs.Nfd.{Reorderable, Ordered, nfd}
-use Rattle.ji.specs.Reply.{good, checkPoints}
-use Rattle.ji.specs.Lomaji.Strip.{markTone, isToneMark, withoutMarks, droppedMarks, lastTone}
+use Rattle.ji.specs.Reply.{good, check_points}
+use Rattle.ji.specs.Lomaji.Strip.{mark_tone, is_tone_mark, without_marks, dropped_marks, last_tone}
 use Rattle.ji.specs.declared.tone.Tone.TheVariants.{None}
 use Rattle.ji.specs.declared.lomaji.quick.Progress.{Progress}
 use Rattle.ji.specs.declared.lomaji.quick.Outcome.{Outcome}
@@ -16,14 +16,14 @@ use Rattle.ji.specs.declared.lomaji.quick.Outcome.TheVariants.{Whole, GivenUp}
 abbrev pub IsLetter : ℕ → ℕ → Type 0
 IsLetter c x =
     (x ≡ 0 → ⊥)
-    → (decomposition unicode16 c ≡ (x / 65536) ∷ (x % 65536) ∷ []) × (x / 65536 < 0x80) × (isToneMark (x % 65536) ≡ true) × (member unicode16 c ≡ true)
+    → (decomposition unicode16 c ≡ (x / 65536) ∷ (x % 65536) ∷ []) × (x / 65536 < 0x80) × (is_tone_mark (x % 65536) ≡ true) × (member unicode16 c ≡ true)
 
 -- the code points s, which decompose no further, are stripped as far as p says. While p is sorted, the rest is in order, and stays so with any
 -- code point behind it that is not to be exchanged with the mark that was written last
 pub record Stripping (before after : List ℕ) (p : Progress) (s : List ℕ) : Type 0 where
-  pub written : Written before after p.n (encode (withoutMarks s))
-  pub tone : markTone p.mark ≡ lastTone None (droppedMarks s)
-  pub order : p.sorted ≡ true → (c : ℕ) → (Reorderable unicode16 p.behind c → ⊥) → Ordered unicode16 (withoutMarks s ++ (c ∷ []))
+  pub written : Written before after p.n (encode (without_marks s))
+  pub tone : mark_tone p.mark ≡ last_tone None (dropped_marks s)
+  pub order : p.sorted ≡ true → (c : ℕ) → (Reorderable unicode16 p.behind c → ⊥) → Ordered unicode16 (without_marks s ++ (c ∷ []))
 
 -- a step from p to q takes the code points u, whatever was taken before
 abbrev pub Further : Progress → Progress → List ℕ → List ℕ → List ℕ → Type 0
@@ -32,6 +32,6 @@ Further p q entry exit u = (before s : List ℕ) → Stripping before entry p s 
 -- the text is good, and the buffer holds the bytes of its NFD without the marks
 abbrev pub Walked : List ℕ → List ℕ → List ℕ → Outcome → Type 0
 Walked text before after (Whole n tone) =
-    (u : List ℕ) × (checkPoints unicode16 (decode text) ≡ good u) × Written before after n.0 (encode (withoutMarks (nfd unicode16 u)))
-    × (tone ≡ lastTone None (droppedMarks (nfd unicode16 u)))
+    (u : List ℕ) × (check_points unicode16 (decode text) ≡ good u) × Written before after n.0 (encode (without_marks (nfd unicode16 u)))
+    × (tone ≡ last_tone None (dropped_marks (nfd unicode16 u)))
 Walked text before after GivenUp = Unit {0}

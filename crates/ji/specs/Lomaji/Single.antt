@@ -1,7 +1,7 @@
 -- A text with at most one tone mark: what is kept of it, and the letter that has the mark.
 use Rattle.std.specs.Prelude.{◌≡◌, List, ◌++◌, ◌⊎◌, ℕ, ◌+◌, ◌≤◌, length, drop}
 use Rattle.ucd.specs.Table.{All}
-use Rattle.ji.specs.Utf8.{bytesOf, encode}
+use Rattle.ji.specs.Utf8.{bytes_of, encode}
 use Rattle.ji.specs.Lomaji.Quick.{IsLetter}
 
 -- a code point that stripping keeps as it is: ASCII, 0358 and 207F, of which syllables are made
@@ -14,4 +14,4 @@ KeptTo s from to = (u : List ℕ) × All Kept u × (drop from s ≡ encode u ++ 
 
 -- x is 0, or holds the two code points of the letter with a tone mark that stands at `at`, in two bytes
 abbrev pub MarkedAt : List ℕ → ℕ → ℕ → Type 0
-MarkedAt s at x = (x ≡ 0 → ⊥) → (at + 2 ≤ length s) × (c : ℕ) × (drop at s ≡ bytesOf c ++ drop (at + 2) s) × IsLetter c x
+MarkedAt s at x = (x ≡ 0 → ⊥) → (at + 2 ≤ length s) × (c : ℕ) × (drop at s ≡ bytes_of c ++ drop (at + 2) s) × IsLetter c x

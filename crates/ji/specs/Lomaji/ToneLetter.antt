@@ -5,8 +5,8 @@ use Prim.Native.String.{String}
 use Rattle.ucd.specs.Table.{Table, listed}
 use Rattle.ji.specs.Text.{points, lower}
 use Rattle.ji.specs.Nfd.{nfd}
-use Rattle.ji.specs.Unicode.{toByteLen}
-use Rattle.ji.specs.Reply.{Reply, refused, found, Checked, good, bad, checkText}
+use Rattle.ji.specs.Unicode.{to_byte_len}
+use Rattle.ji.specs.Reply.{Reply, refused, found, Checked, good, bad, check_text}
 use Rattle.ji.specs.declared.lomaji.tone_letter.ToneLetter.{ToneLetter}
 use Rattle.ji.specs.declared.lomaji.tone_letter.HasToneLetter.{HasToneLetter}
 use Rattle.ji.specs.declared.lomaji.tone_letter.BytePlace.{BytePlace}
@@ -33,80 +33,80 @@ matches [] s = true
 matches (letters ∷ more) [] = false
 matches (letters ∷ more) (x ∷ s) = listed (points letters) (lower x) && matches more s
 
-abbrev pub pickPlace : Bool → Option ℕ → Option ℕ → Option ℕ
-pickPlace true a b = a
-pickPlace false a b = b
+abbrev pub pick_place : Bool → Option ℕ → Option ℕ → Option ℕ
+pick_place true a b = a
+pick_place false a b = b
 
 abbrev pub further : ℕ → Option ℕ → Option ℕ
 further n none = none
 further n (some k) = some (n + k)
 
-abbrev pub orElse : Option ℕ → Option ℕ → Option ℕ
-orElse none o = o
-orElse (some k) o = some k
+abbrev pub or_else : Option ℕ → Option ℕ → Option ℕ
+or_else none o = o
+or_else (some k) o = some k
 
 -- "each at its first place"
-unfoldable pub firstPlace : List String → List ℕ → Option ℕ
-firstPlace p [] = none
-firstPlace p (x ∷ s) = let later : Option ℕ = further 1 (firstPlace p s) in pickPlace (matches p (x ∷ s)) (some 0) later
+unfoldable pub first_place : List String → List ℕ → Option ℕ
+first_place p [] = none
+first_place p (x ∷ s) = let later : Option ℕ = further 1 (first_place p s) in pick_place (matches p (x ∷ s)) (some 0) later
 
 -- "The search ends at the first pattern found"
 unfoldable pub searched : List (List String × ℕ) → List ℕ → Option ℕ
 searched [] s = none
-searched (p ∷ ps) s = let later : Option ℕ = searched ps s in orElse (further p.1 (firstPlace p.0 s)) later
+searched (p ∷ ps) s = let later : Option ℕ = searched ps s in or_else (further p.1 (first_place p.0 s)) later
 
 -- the place of the tone letter, in code points
-unfoldable pub toneLetter : List ℕ → Option ℕ
-toneLetter s = searched patterns s
+unfoldable pub tone_letter : List ℕ → Option ℕ
+tone_letter s = searched patterns s
 
-abbrev pub isSome : Option ℕ → Bool
-isSome none = false
-isSome (some k) = true
+abbrev pub is_some : Option ℕ → Bool
+is_some none = false
+is_some (some k) = true
 
 -- "`has_tone_letter` applies it to the NFD"
-unfoldable pub hasToneLetter : Table → List ℕ → Bool
-hasToneLetter t s = isSome (toneLetter (nfd t s))
+unfoldable pub has_tone_letter : Table → List ℕ → Bool
+has_tone_letter t s = is_some (tone_letter (nfd t s))
 
 -- a place as the code has it
-abbrev pub placeOf : Place → Option ℕ
-placeOf (At n) = some n.0
-placeOf Nowhere = none
+abbrev pub place_of : Place → Option ℕ
+place_of (At n) = some n.0
+place_of Nowhere = none
 
 -- the same, of a place in bytes
-abbrev pub bytePlaceOf : BytePlace → Option ℕ
-bytePlaceOf (BytePlace.At n) = some n.0
-bytePlaceOf BytePlace.Nowhere = none
+abbrev pub byte_place_of : BytePlace → Option ℕ
+byte_place_of (BytePlace.At n) = some n.0
+byte_place_of BytePlace.Nowhere = none
 
 -- ── the calls
 -- "no tone letter" is a good answer "with length 0"; a tone letter has length 1 and its position, "counted in bytes"
-abbrev pub letterAt : List ℕ → Option ℕ → Reply
-letterAt s none = found 0 0
-letterAt s (some k) = found 1 (toByteLen s k)
+abbrev pub letter_at : List ℕ → Option ℕ → Reply
+letter_at s none = found 0 0
+letter_at s (some k) = found 1 (to_byte_len s k)
 
-abbrev pub toneLetterOf : Checked → Reply
-toneLetterOf (good s) = letterAt s (toneLetter s)
-toneLetterOf (bad why) = refused why []
+abbrev pub tone_letter_of : Checked → Reply
+tone_letter_of (good s) = letter_at s (tone_letter s)
+tone_letter_of (bad why) = refused why []
 
-unfoldable pub toneLetterCall : Table → List ℕ → Reply
-toneLetterCall t text = toneLetterOf (checkText t text)
+unfoldable pub tone_letter_call : Table → List ℕ → Reply
+tone_letter_call t text = tone_letter_of (check_text t text)
 
-abbrev pub toneLetterReply : ToneLetter → Reply
-toneLetterReply (ToneLetter.At n) = found 1 n.0
-toneLetterReply ToneLetter.Nothing = found 0 0
-toneLetterReply (ToneLetter.Refused why) = refused why []
+abbrev pub tone_letter_reply : ToneLetter → Reply
+tone_letter_reply (ToneLetter.At n) = found 1 n.0
+tone_letter_reply ToneLetter.Nothing = found 0 0
+tone_letter_reply (ToneLetter.Refused why) = refused why []
 
-abbrev pub hasLetterReply : Bool → Reply
-hasLetterReply true = found 1 0
-hasLetterReply false = found 0 0
+abbrev pub has_letter_reply : Bool → Reply
+has_letter_reply true = found 1 0
+has_letter_reply false = found 0 0
 
-abbrev pub hasToneLetterOf : Table → Checked → Reply
-hasToneLetterOf t (good s) = hasLetterReply (hasToneLetter t s)
-hasToneLetterOf t (bad why) = refused why []
+abbrev pub has_tone_letter_of : Table → Checked → Reply
+has_tone_letter_of t (good s) = has_letter_reply (has_tone_letter t s)
+has_tone_letter_of t (bad why) = refused why []
 
-unfoldable pub hasToneLetterCall : Table → List ℕ → Reply
-hasToneLetterCall t text = hasToneLetterOf t (checkText t text)
+unfoldable pub has_tone_letter_call : Table → List ℕ → Reply
+has_tone_letter_call t text = has_tone_letter_of t (check_text t text)
 
-abbrev pub hasToneLetterReply : HasToneLetter → Reply
-hasToneLetterReply HasToneLetter.Yes = found 1 0
-hasToneLetterReply HasToneLetter.No = found 0 0
-hasToneLetterReply (HasToneLetter.Refused why) = refused why []
+abbrev pub has_tone_letter_reply : HasToneLetter → Reply
+has_tone_letter_reply HasToneLetter.Yes = found 1 0
+has_tone_letter_reply HasToneLetter.No = found 0 0
+has_tone_letter_reply (HasToneLetter.Refused why) = refused why []

@@ -4,10 +4,10 @@ ghost use Rattle.std.proofs.Math.Seq.{paste};
 ghost use Rattle.ucd.specs.Unicode16.{unicode16};
 ghost use Rattle.ji.specs.Utf8.{encode};
 ghost use Rattle.ji.specs.Unicode.{members};
-ghost use Rattle.ji.specs.Tone.{toneNumber};
+ghost use Rattle.ji.specs.Tone.{tone_number};
 ghost use Rattle.ji.specs.Written.{Written};
-ghost use Rattle.ji.specs.Reply.{placed, textCall, textReply};
-ghost use Rattle.ji.specs.Lomaji.Keys.{plainRules, rulesOf, respell, toneKeys, keys, keyText};
+ghost use Rattle.ji.specs.Reply.{placed, text_call, text_reply};
+ghost use Rattle.ji.specs.Lomaji.Keys.{plain_rules, rules_of, respell, tone_keys, keys, key_text};
 
 use crate::lomaji::strip;
 use crate::lomaji::strip::Strip;
@@ -42,7 +42,7 @@ pub(crate) enum ToneKey {
 
 // The first two rules: o and O with U+0358. They keep the length, so they go in place.
 fn respell_o(form: Form, s: &mut [u16])
-    ensures { s.new ≡ respell (take 2 (rulesOf form)) s.old }
+    ensures { s.new ≡ respell (take 2 (rules_of form)) s.old }
 {
     match form {
         Form::Plain => {
@@ -58,8 +58,8 @@ fn respell_o(form: Form, s: &mut [u16])
 
 // The next two, U+207F and U+1D3A, which make a text longer. They go in one pass, since neither is in what replaces the other.
 fn respell_nasals(src: &[u16], out: &mut [u16]) -> usize
-    requires { length (respell (take 2 (drop 2 plainRules)) src.now) ≤ length out.old }
-    ensures { Written out.old out.new result (respell (take 2 (drop 2 plainRules)) src.now) }
+    requires { length (respell (take 2 (drop 2 plain_rules)) src.now) ≤ length out.old }
+    ensures { Written out.old out.new result (respell (take 2 (drop 2 plain_rules)) src.now) }
 {
     let small = [0x6E, 0x6E];
     let capital = [0x4E, 0x4E];
@@ -82,7 +82,7 @@ fn respell_nasals(src: &[u16], out: &mut [u16]) -> usize
 
 // The last two: o and u with U+0324, in place again.
 fn respell_below(s: &mut [u16])
-    ensures { s.new ≡ respell (drop 4 plainRules) s.old }
+    ensures { s.new ≡ respell (drop 4 plain_rules) s.old }
 {
     replace_pair(s, 0x6F, 0x324, 0x65, 0x6F);
     replace_pair(s, 0x75, 0x324, 0x65, 0x75);
@@ -90,8 +90,8 @@ fn respell_below(s: &mut [u16])
 
 // Writes the letters of a stripped text in keys to the front of `out`, and returns their number. `s` is left as the first two rules make it.
 pub(crate) fn respell(form: Form, s: &mut [u16], out: &mut [u16]) -> usize
-    requires { length (respell (rulesOf form) s.old) ≤ length out.old }
-    ensures { (s.new ≡ respell (take 2 (rulesOf form)) s.old) × Written out.old out.new result (respell (rulesOf form) s.old) }
+    requires { length (respell (rules_of form) s.old) ≤ length out.old }
+    ensures { (s.new ≡ respell (take 2 (rules_of form)) s.old) × Written out.old out.new result (respell (rules_of form) s.old) }
 {
     respell_o(form, s);
     let n = respell_nasals(s, out);
@@ -101,14 +101,14 @@ pub(crate) fn respell(form: Form, s: &mut [u16], out: &mut [u16]) -> usize
 
 // The key that an ASCII character is.
 fn key_of(ascii: u8) -> ToneKey
-    ensures { keyText result ≡ ascii ∷ [] }
+    ensures { key_text result ≡ ascii ∷ [] }
 {
     ToneKey::Key(ascii)
 }
 
 // The key by which keys of a kind write a tone.
 pub(crate) fn tone_key(kind: Kind, tone: Tone) -> ToneKey
-    ensures { keyText result ≡ take 1 (drop (toneNumber tone) (toneKeys kind)) }
+    ensures { key_text result ≡ take 1 (drop (tone_number tone) (tone_keys kind)) }
 {
     let n = tone::number(tone);
     match kind {
@@ -120,8 +120,8 @@ pub(crate) fn tone_key(kind: Kind, tone: Tone) -> ToneKey
 
 // Writes the key at `at`, and returns the place behind it.
 fn put_key(key: ToneKey, out: &mut [u16], at: usize) -> usize
-    requires { at + length (keyText key) ≤ length out.old }
-    ensures { (result ≡ at + length (keyText key)) × (out.new ≡ paste out.old at (keyText key) (length (keyText key))) }
+    requires { at + length (key_text key) ≤ length out.old }
+    ensures { (result ≡ at + length (key_text key)) × (out.new ≡ paste out.old at (key_text key) (length (key_text key))) }
 {
     match key {
         ToneKey::Nothing => at,
@@ -142,7 +142,7 @@ fn respell_bytes(
     letters: &mut [u16],
 ) -> usize
     requires { (length stripped.now ≤ length points.old / 3 * 2) × (2 * length stripped.now < length letters.old) }
-    ensures { (rest : List ℕ) → members unicode16 rest ≡ true → stripped.now ≡ encode rest → Written letters.old letters.new result (respell (rulesOf form) rest ++ keyText key) }
+    ensures { (rest : List ℕ) → members unicode16 rest ≡ true → stripped.now ≡ encode rest → Written letters.old letters.new result (respell (rules_of form) rest ++ key_text key) }
 {
     match unicode::read_points(stripped, points) {
         Decoded::Refused(_) => 0,
@@ -157,7 +157,7 @@ fn respell_bytes(
 // Writes the first `n` of `bytes`, and the key behind them.
 fn place_toned(bytes: &mut [u8], n: usize, key: ToneKey, out: &mut [u8]) -> TextAnswer
     requires { n < length bytes.old }
-    ensures { textReply result out.new ≡ placed 0 (take n bytes.old ++ keyText key) out.old }
+    ensures { text_reply result out.new ≡ placed 0 (take n bytes.old ++ key_text key) out.old }
 {
     match key {
         ToneKey::Nothing => reply::place_bytes(&bytes[0..n], out),
@@ -180,7 +180,7 @@ fn keys_in(
     out: &mut [u8],
 ) -> TextAnswer
     requires { (length text.now ≤ 256) × (5 * length text.now + 2 ≤ 2 * length bytes.old) × (length bytes.old ≤ length points.old / 3 * 2) × (2 * length bytes.old < length letters.old) }
-    ensures { textReply result out.new ≡ textCall unicode16 (keys unicode16 form kind) text.now out.old }
+    ensures { text_reply result out.new ≡ text_call unicode16 (keys unicode16 form kind) text.now out.old }
 {
     match strip::strip_tone_diacritic(text, bytes) {
         Strip::Refused(why) => TextAnswer::Refused(why),
@@ -202,7 +202,7 @@ fn keys_in(
 // text, and the key takes one more.
 fn keys_short(text: &[u8], form: Form, kind: Kind, out: &mut [u8]) -> TextAnswer
     requires { length text.now ≤ 8 }
-    ensures { textReply result out.new ≡ textCall unicode16 (keys unicode16 form kind) text.now out.old }
+    ensures { text_reply result out.new ≡ text_call unicode16 (keys unicode16 form kind) text.now out.old }
 {
     let mut bytes = [0u8; 22];
     let mut points = [0u16; 33];
@@ -213,7 +213,7 @@ fn keys_short(text: &[u8], form: Form, kind: Kind, out: &mut [u8]) -> TextAnswer
 // In buffers for a text of at most 256 bytes.
 fn keys_long(text: &[u8], form: Form, kind: Kind, out: &mut [u8]) -> TextAnswer
     requires { length text.now ≤ 256 }
-    ensures { textReply result out.new ≡ textCall unicode16 (keys unicode16 form kind) text.now out.old }
+    ensures { text_reply result out.new ≡ text_call unicode16 (keys unicode16 form kind) text.now out.old }
 {
     let mut bytes = [0u8; 642];
     let mut points = [0u16; 963];
@@ -223,7 +223,7 @@ fn keys_long(text: &[u8], form: Form, kind: Kind, out: &mut [u8]) -> TextAnswer
 
 // `poj_syl_to_key_sequences` and its `_oo` form: the keys of the syllable `text`, in `out`.
 pub fn keys(text: &[u8], form: Form, kind: Kind, out: &mut [u8]) -> TextAnswer
-    ensures { textReply result out.new ≡ textCall unicode16 (keys unicode16 form kind) text.now out.old }
+    ensures { text_reply result out.new ≡ text_call unicode16 (keys unicode16 form kind) text.now out.old }
 {
     if text.len() <= 8 {
         return keys_short(text, form, kind, out);

@@ -2,7 +2,7 @@
 ghost use Rattle.std.specs.Prelude.{◌≡◌, ◌||◌, [], ◌∷◌};
 ghost use Rattle.ji.specs.Text.{begins};
 ghost use Rattle.ji.specs.Utf8.{bytes};
-ghost use Rattle.ji.specs.Lomaji.Khin.{afterKhin, khinOf, khinNumber};
+ghost use Rattle.ji.specs.Lomaji.Khin.{after_khin, khin_of, khin_number};
 
 // Whether a text has the mark.
 #[derive(Clone, Copy)]
@@ -36,21 +36,21 @@ fn has_mark(text: &[u8]) -> bool
 
 // The part of `text` behind its mark, and the whole of it where it has none. One mark is removed, though another may follow.
 pub fn strip_khin(text: &[u8]) -> &[u8]
-    ensures { result.now ≡ afterKhin text.now }
+    ensures { result.now ≡ after_khin text.now }
 {
     if has_mark(text) { &text[2..] } else { text }
 }
 
 // Whether `text` has the mark that `strip_khin` removes.
 pub fn khin_of(text: &[u8]) -> Khin
-    ensures { result ≡ khinOf text.now }
+    ensures { result ≡ khin_of text.now }
 {
     if has_mark(text) { Khin::Yes } else { Khin::No }
 }
 
 // Khin as a number: 0 no, 1 yes.
 pub fn number(khin: Khin) -> u64
-    ensures { result ≡ khinNumber khin }
+    ensures { result ≡ khin_number khin }
 {
     match khin {
         Khin::No => 0,

@@ -6,7 +6,7 @@ ghost use Rattle.ucd.specs.Full.{full};
 ghost use Rattle.ucd.specs.Unicode16.{unicode16};
 ghost use Rattle.ji.specs.Written.{Written};
 ghost use Rattle.ji.specs.Nfd.{Reorderable};
-ghost use Rattle.ji.specs.Lomaji.Strip.{isToneMark};
+ghost use Rattle.ji.specs.Lomaji.Strip.{is_tone_mark};
 ghost use Rattle.ji.specs.Lomaji.Quick.{IsLetter, Further, Walked};
 
 use crate::lomaji::strip::mark_tone;
@@ -59,7 +59,7 @@ fn is_before(x: u16, behind: u16) -> bool
 
 // Takes a code point that is no tone mark.
 fn push_kept(x: u16, out: &mut [u8], p: Progress) -> Progress
-    requires { (isToneMark x ≡ false) × (p.n + 3 ≤ length out.old) }
+    requires { (is_tone_mark x ≡ false) × (p.n + 3 ≤ length out.old) }
     ensures { (result.n ≤ p.n + 3) × Further p result out.old out.new (x ∷ []) }
 {
     let at = p.n;

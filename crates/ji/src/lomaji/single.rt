@@ -1,10 +1,10 @@
 // A text with at most one tone mark, as a syllable has: all of it is looked at before the first byte is written, so that it needs no buffer in
 // between.
 ghost use Rattle.std.specs.Prelude.{◌≡◌, true, ◌∷◌, ◌++◌, ◌+◌, ◌/◌, ◌%◌, ◌≤◌, ◌<◌, length, take, drop};
-ghost use Rattle.ji.specs.Utf8.{bytesOf};
-ghost use Rattle.ji.specs.Tone.{toneNumber};
+ghost use Rattle.ji.specs.Utf8.{bytes_of};
+ghost use Rattle.ji.specs.Tone.{tone_number};
 ghost use Rattle.ji.specs.Reply.{placed};
-ghost use Rattle.ji.specs.Lomaji.Strip.{markTone, stripReply};
+ghost use Rattle.ji.specs.Lomaji.Strip.{mark_tone, strip_reply};
 ghost use Rattle.ji.specs.Lomaji.Single.{KeptTo, MarkedAt};
 
 use crate::lomaji::quick;
@@ -16,7 +16,7 @@ use crate::unicode::ByteLen;
 // Whether U+0358 stands at `i`.
 fn is_dot(s: &[u8], i: usize) -> bool
     requires { i < length s.now }
-    ensures { result ≡ true → (i + 2 ≤ length s.now) × (drop i s.now ≡ bytesOf 0x0358 ++ drop (i + 2) s.now) }
+    ensures { result ≡ true → (i + 2 ≤ length s.now) × (drop i s.now ≡ bytes_of 0x0358 ++ drop (i + 2) s.now) }
 {
     if i + 1 < s.len() {
         if s[i] == 0xCD {
@@ -29,7 +29,7 @@ fn is_dot(s: &[u8], i: usize) -> bool
 // Whether ⁿ stands at `i`.
 fn is_nasal(s: &[u8], i: usize) -> bool
     requires { i < length s.now }
-    ensures { result ≡ true → (i + 3 ≤ length s.now) × (drop i s.now ≡ bytesOf 0x207F ++ drop (i + 3) s.now) }
+    ensures { result ≡ true → (i + 3 ≤ length s.now) × (drop i s.now ≡ bytes_of 0x207F ++ drop (i + 3) s.now) }
 {
     if i + 2 < s.len() {
         if s[i] == 0xE2 {
@@ -94,7 +94,7 @@ pub(crate) fn marked_at(s: &[u8], at: usize) -> u32
 // Writes the text without the mark of the letter at `at`, and answers its length and its tone.
 pub(crate) fn place_marked(text: &[u8], at: usize, letter: u32, out: &mut [u8]) -> Strip
     requires { (at + 2 ≤ length text.now) × (letter / 65536 < 0x80) }
-    ensures { stripReply result out.new ≡ placed (toneNumber (markTone (letter % 65536))) (take at text.now ++ (letter / 65536 ∷ drop (at + 2) text.now)) out.old }
+    ensures { strip_reply result out.new ≡ placed (tone_number (mark_tone (letter % 65536))) (take at text.now ++ (letter / 65536 ∷ drop (at + 2) text.now)) out.old }
 {
     if out.len() < text.len() - 1 {
         return Strip::Refused(Refusal::NoRoom);

@@ -4,9 +4,9 @@ ghost use Rattle.ucd.specs.Unicode16.{unicode16};
 ghost use Rattle.ji.specs.Written.{Written};
 ghost use Rattle.ji.specs.Utf8.{encode};
 ghost use Rattle.ji.specs.Nfd.{order};
-ghost use Rattle.ji.specs.Tone.{toneNumber};
+ghost use Rattle.ji.specs.Tone.{tone_number};
 ghost use Rattle.ji.specs.Reply.{placed};
-ghost use Rattle.ji.specs.Lomaji.Strip.{markTone, withoutMarks, droppedMarks, lastTone, endsIn, endsInAny, stopEndings, unmarkedTone, toneOr, strippedReply, stripCall, stripReply};
+ghost use Rattle.ji.specs.Lomaji.Strip.{mark_tone, without_marks, dropped_marks, last_tone, ends_in, ends_in_any, stop_endings, unmarked_tone, tone_or, stripped_reply, strip_call, strip_reply};
 
 use crate::lomaji::quick::Outcome;
 use crate::lomaji::{quick, single};
@@ -32,7 +32,7 @@ pub enum Strip {
 
 // The tone of a mark, None of any other code point.
 pub(crate) fn mark_tone(c: u16) -> Tone
-    ensures { result ≡ markTone c }
+    ensures { result ≡ mark_tone c }
 {
     match c {
         0x0301 => Tone::T2,
@@ -55,7 +55,7 @@ pub(crate) struct Dropped {
 
 // Drops the tone marks of `s`, in place.
 pub(crate) fn drop_marks(s: &mut [u16]) -> Dropped
-    ensures { Written s.old s.new result.left.0 (withoutMarks s.old) × (result.tone ≡ lastTone Tone.None (droppedMarks s.old)) }
+    ensures { Written s.old s.new result.left.0 (without_marks s.old) × (result.tone ≡ last_tone Tone.None (dropped_marks s.old)) }
 {
     let mut i = 0;
     let mut n = 0;
@@ -80,7 +80,7 @@ pub(crate) fn drop_marks(s: &mut [u16]) -> Dropped
 
 // Whether the last bytes of `s`, in lower case, are `ending`.
 fn ends_in(ending: &[u8], s: &[u8]) -> bool
-    ensures { result ≡ endsIn ending.now s.now }
+    ensures { result ≡ ends_in ending.now s.now }
 {
     if s.len() < ending.len() {
         return false;
@@ -98,7 +98,7 @@ fn ends_in(ending: &[u8], s: &[u8]) -> bool
 
 // Whether `s` has one of the seven endings of a stop. Its last byte tells which of them it might have.
 fn ends_in_any(s: &[u8]) -> bool
-    ensures { result ≡ endsInAny stopEndings s.now }
+    ensures { result ≡ ends_in_any stop_endings s.now }
 {
     if s.len() == 0 {
         return false;
@@ -117,7 +117,7 @@ fn ends_in_any(s: &[u8]) -> bool
 
 // The tone of a text without a mark, from its bytes.
 pub fn unmarked_tone(s: &[u8]) -> Tone
-    ensures { result ≡ unmarkedTone s.now }
+    ensures { result ≡ unmarked_tone s.now }
 {
     if ends_in_any(s) {
         return Tone::T4;
@@ -127,7 +127,7 @@ pub fn unmarked_tone(s: &[u8]) -> Tone
 
 // The tone: of the last mark, or by the ending of the stripped text, whose bytes `s` are.
 pub(crate) fn tone_of(last: Tone, s: &[u8]) -> Tone
-    ensures { result ≡ toneOr last (unmarkedTone s.now) }
+    ensures { result ≡ tone_or last (unmarked_tone s.now) }
 {
     if is_tone(last) {
         return last;
@@ -138,7 +138,7 @@ pub(crate) fn tone_of(last: Tone, s: &[u8]) -> Tone
 // Writes the stripped text `s` to `out`, and answers its length and its tone.
 fn place(s: &[u16], last: Tone, out: &mut [u8]) -> Strip
     requires { length s.now ≤ 65536 }
-    ensures { stripReply result out.new ≡ placed (toneNumber (toneOr last (unmarkedTone (encode s.now)))) (encode s.now) out.old }
+    ensures { strip_reply result out.new ≡ placed (tone_number (tone_or last (unmarked_tone (encode s.now)))) (encode s.now) out.old }
 {
     let needed = utf8::encoded_len(s);
     if out.len() < needed.0 {
@@ -156,7 +156,7 @@ fn place(s: &[u16], last: Tone, out: &mut [u8]) -> Strip
 // Puts the fully decomposed text `s` into canonical order, drops its marks and writes what is left.
 fn finish(s: &mut [u16], out: &mut [u8]) -> Strip
     requires { length s.old ≤ 65536 }
-    ensures { stripReply result out.new ≡ strippedReply (order unicode16 s.old) out.old }
+    ensures { strip_reply result out.new ≡ stripped_reply (order unicode16 s.old) out.old }
 {
     nfd::order(s);
     let dropped = drop_marks(s);
@@ -169,7 +169,7 @@ fn finish(s: &mut [u16], out: &mut [u8]) -> Strip
 // Strips `text` in a buffer of code points.
 fn strip_in(text: &[u8], points: &mut [u16], out: &mut [u8]) -> Strip
     requires { (length text.now ≤ 256) × (3 * length text.now ≤ 2 * length points.old) × (length points.old ≤ 65536) }
-    ensures { stripReply result out.new ≡ stripCall unicode16 text.now out.old }
+    ensures { strip_reply result out.new ≡ strip_call unicode16 text.now out.old }
 {
     match unicode::decode(text, true, points) {
         Decoded::Refused(why) => Strip::Refused(why),
@@ -183,7 +183,7 @@ fn strip_in(text: &[u8], points: &mut [u16], out: &mut [u8]) -> Strip
 // In a buffer for a text of at most 32 bytes: clearing a small one is quicker.
 fn strip_in_short(text: &[u8], out: &mut [u8]) -> Strip
     requires { length text.now ≤ 32 }
-    ensures { stripReply result out.new ≡ stripCall unicode16 text.now out.old }
+    ensures { strip_reply result out.new ≡ strip_call unicode16 text.now out.old }
 {
     let mut points = [0u16; 48];
     strip_in(text, &mut points, out)
@@ -192,7 +192,7 @@ fn strip_in_short(text: &[u8], out: &mut [u8]) -> Strip
 // In a buffer for any text.
 fn strip_in_long(text: &[u8], out: &mut [u8]) -> Strip
     requires { length text.now ≤ 256 }
-    ensures { stripReply result out.new ≡ stripCall unicode16 text.now out.old }
+    ensures { strip_reply result out.new ≡ strip_call unicode16 text.now out.old }
 {
     let mut points = [0u16; 384];
     strip_in(text, &mut points, out)
@@ -201,7 +201,7 @@ fn strip_in_long(text: &[u8], out: &mut [u8]) -> Strip
 // Strips a text step by step: what the quick walk gives up.
 fn strip_slowly(text: &[u8], out: &mut [u8]) -> Strip
     requires { length text.now ≤ 256 }
-    ensures { stripReply result out.new ≡ stripCall unicode16 text.now out.old }
+    ensures { strip_reply result out.new ≡ strip_call unicode16 text.now out.old }
 {
     if text.len() <= 32 {
         return strip_in_short(text, out);
@@ -211,7 +211,7 @@ fn strip_slowly(text: &[u8], out: &mut [u8]) -> Strip
 
 // Writes the bytes of a stripped text to `out`, and answers its length and its tone.
 fn place_bytes(s: &[u8], last: Tone, out: &mut [u8]) -> Strip
-    ensures { stripReply result out.new ≡ placed (toneNumber (toneOr last (unmarkedTone s.now))) s.now out.old }
+    ensures { strip_reply result out.new ≡ placed (tone_number (tone_or last (unmarked_tone s.now))) s.now out.old }
 {
     if out.len() < s.len() {
         return Strip::Refused(Refusal::NoRoom);
@@ -226,7 +226,7 @@ fn place_bytes(s: &[u8], last: Tone, out: &mut [u8]) -> Strip
 // Strips a text in one walk into a buffer of bytes, or else step by step.
 fn strip_by(text: &[u8], bytes: &mut [u8], out: &mut [u8]) -> Strip
     requires { (length text.now ≤ 256) × (length text.now ≤ length bytes.old) × (length bytes.old ≤ 65536) }
-    ensures { stripReply result out.new ≡ stripCall unicode16 text.now out.old }
+    ensures { strip_reply result out.new ≡ strip_call unicode16 text.now out.old }
 {
     match quick::walk(text, bytes) {
         Outcome::GivenUp => strip_slowly(text, out),
@@ -240,7 +240,7 @@ fn strip_by(text: &[u8], bytes: &mut [u8], out: &mut [u8]) -> Strip
 // A text of at most 32 bytes. Stripping makes a text longer by half at most, so the walk always has room.
 fn strip_short(text: &[u8], out: &mut [u8]) -> Strip
     requires { length text.now ≤ 32 }
-    ensures { stripReply result out.new ≡ stripCall unicode16 text.now out.old }
+    ensures { strip_reply result out.new ≡ strip_call unicode16 text.now out.old }
 {
     let mut bytes = [0u8; 64];
     strip_by(text, &mut bytes, out)
@@ -248,7 +248,7 @@ fn strip_short(text: &[u8], out: &mut [u8]) -> Strip
 
 fn strip_long(text: &[u8], out: &mut [u8]) -> Strip
     requires { length text.now ≤ 256 }
-    ensures { stripReply result out.new ≡ stripCall unicode16 text.now out.old }
+    ensures { strip_reply result out.new ≡ strip_call unicode16 text.now out.old }
 {
     let mut bytes = [0u8; 400];
     strip_by(text, &mut bytes, out)
@@ -257,7 +257,7 @@ fn strip_long(text: &[u8], out: &mut [u8]) -> Strip
 // A text of any kind.
 fn strip_any(text: &[u8], out: &mut [u8]) -> Strip
     requires { length text.now ≤ 256 }
-    ensures { stripReply result out.new ≡ stripCall unicode16 text.now out.old }
+    ensures { strip_reply result out.new ≡ strip_call unicode16 text.now out.old }
 {
     if text.len() <= 32 {
         return strip_short(text, out);
@@ -267,7 +267,7 @@ fn strip_any(text: &[u8], out: &mut [u8]) -> Strip
 
 // The text without its tone marks, in NFD, in `out`, and its tone. Most texts are kept whole, or have one letter with a mark.
 pub fn strip_tone_diacritic(text: &[u8], out: &mut [u8]) -> Strip
-    ensures { stripReply result out.new ≡ stripCall unicode16 text.now out.old }
+    ensures { strip_reply result out.new ≡ strip_call unicode16 text.now out.old }
 {
     if 256 < text.len() {
         return Strip::Refused(Refusal::TooLong);

@@ -3,7 +3,7 @@ ghost use Rattle.std.specs.Prelude.{◌≡◌, [], ◌∷◌, ◌*◌, ◌/◌, 
 ghost use Rattle.ucd.specs.Table.{listed};
 ghost use Rattle.ji.specs.Text.{points, point, lower};
 ghost use Rattle.ucd.specs.Unicode16.{unicode16};
-ghost use Rattle.ji.specs.Lomaji.ToneLetter.{patterns, matches, searched, toneLetter, placeOf, bytePlaceOf, isSome, letterAt, toneLetterCall, toneLetterReply, hasLetterReply, hasToneLetterCall, hasToneLetterReply};
+ghost use Rattle.ji.specs.Lomaji.ToneLetter.{patterns, matches, searched, tone_letter, place_of, byte_place_of, is_some, letter_at, tone_letter_call, tone_letter_reply, has_letter_reply, has_tone_letter_call, has_tone_letter_reply};
 
 use crate::reply::Refusal;
 use crate::unicode::{ByteLen, CharLen, Decoded};
@@ -142,7 +142,7 @@ fn letter_of(k: usize) -> usize
 
 // The first pattern to look for: the first two begin with o, which many texts do not have.
 fn first_tried(s: &[u16]) -> usize
-    ensures { (result ≤ 9) × (toneLetter s.now ≡ searched (drop result patterns) s.now) }
+    ensures { (result ≤ 9) × (tone_letter s.now ≡ searched (drop result patterns) s.now) }
 {
     let mut at: usize = 0;
     while at < s.len() {
@@ -156,7 +156,7 @@ fn first_tried(s: &[u16]) -> usize
 
 // The place of the tone letter: the first pattern that occurs, at its first place. Finding it ends the search over both.
 pub fn tone_position(s: &[u16]) -> Place
-    ensures { placeOf result ≡ toneLetter s.now }
+    ensures { place_of result ≡ tone_letter s.now }
 {
     let mut place = Place::Nowhere;
     let mut k = first_tried(s);
@@ -217,7 +217,7 @@ fn ascii_stands_at(s: &[u8], at: usize, k: usize, first: u16) -> bool
 
 // The first pattern to look for.
 fn ascii_first_tried(s: &[u8]) -> usize
-    ensures { (result ≤ 9) × (toneLetter s.now ≡ searched (drop result patterns) s.now) }
+    ensures { (result ≤ 9) × (tone_letter s.now ≡ searched (drop result patterns) s.now) }
 {
     let mut at: usize = 0;
     while at < s.len() {
@@ -238,7 +238,7 @@ pub enum BytePlace {
 
 // The place of the tone letter of an ASCII text.
 pub fn ascii_tone_position(s: &[u8]) -> BytePlace
-    ensures { bytePlaceOf result ≡ toneLetter s.now }
+    ensures { byte_place_of result ≡ tone_letter s.now }
 {
     let mut place = BytePlace::Nowhere;
     let mut k = ascii_first_tried(s);
@@ -269,7 +269,7 @@ fn is_single(x: u16) -> bool
 
 // Whether `s` has a tone letter: each pattern begins with a letter that is a pattern by itself, so that it does if it has one of these.
 pub fn holds_letter(s: &[u16]) -> bool
-    ensures { result ≡ isSome (toneLetter s.now) }
+    ensures { result ≡ is_some (tone_letter s.now) }
 {
     let mut i: usize = 0;
     while i < s.len() {
@@ -292,7 +292,7 @@ pub enum ToneLetter {
 // The tone letter of a text that was read: its place among the code points, turned into bytes.
 fn letter_in(s: &[u16]) -> ToneLetter
     requires { length s.now ≤ 65536 }
-    ensures { toneLetterReply result ≡ letterAt s.now (toneLetter s.now) }
+    ensures { tone_letter_reply result ≡ letter_at s.now (tone_letter s.now) }
 {
     match tone_position(s) {
         Place::At(chars) => ToneLetter::At(unicode::to_byte_len(s, chars)),
@@ -303,7 +303,7 @@ fn letter_in(s: &[u16]) -> ToneLetter
 // The tone letter of a text, whose code points are read into `points`.
 fn letter_by(text: &[u8], points: &mut [u16]) -> ToneLetter
     requires { (length text.now ≤ 256) × (length text.now ≤ length points.old / 3 * 2) × (length points.old ≤ 65536) }
-    ensures { toneLetterReply result ≡ toneLetterCall unicode16 text.now }
+    ensures { tone_letter_reply result ≡ tone_letter_call unicode16 text.now }
 {
     match unicode::read_points(text, points) {
         Decoded::Refused(why) => ToneLetter::Refused(why),
@@ -316,7 +316,7 @@ fn letter_by(text: &[u8], points: &mut [u16]) -> ToneLetter
 
 // `get_tone_position`: the tone letter of `text` as it stands. Short texts go in a small buffer, since clearing it is quicker.
 pub fn tone_letter(text: &[u8]) -> ToneLetter
-    ensures { toneLetterReply result ≡ toneLetterCall unicode16 text.now }
+    ensures { tone_letter_reply result ≡ tone_letter_call unicode16 text.now }
 {
     if text.len() <= 16 {
         let mut points = [0u16; 24];
@@ -339,7 +339,7 @@ pub enum HasToneLetter {
 
 // Whether the NFD of `text` has a tone letter.
 pub fn has_tone_letter(text: &[u8]) -> HasToneLetter
-    ensures { hasToneLetterReply result ≡ hasToneLetterCall unicode16 text.now }
+    ensures { has_tone_letter_reply result ≡ has_tone_letter_call unicode16 text.now }
 {
     let mut points = [0u16; 384];
     match nfd::read_nfd(text, &mut points) {
@@ -352,7 +352,7 @@ pub fn has_tone_letter(text: &[u8]) -> HasToneLetter
 }
 
 fn has_letter(s: &[u16]) -> HasToneLetter
-    ensures { hasToneLetterReply result ≡ hasLetterReply (isSome (toneLetter s.now)) }
+    ensures { has_tone_letter_reply result ≡ has_letter_reply (is_some (tone_letter s.now)) }
 {
     if holds_letter(s) {
         HasToneLetter::Yes

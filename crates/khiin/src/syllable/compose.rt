@@ -2,13 +2,13 @@
 // compose's encoding. Most bodies have one pair of vowels at most, and a sign at their end only: for these each rule is one look.
 ghost use Rattle.std.specs.Prelude.{◌≡◌, true, false, ◌&&◌, List, [], ◌∷◌, ◌++◌, ℕ, ◌+◌, ◌-◌, ◌*◌, ◌/◌, ◌≤◌, ◌<◌, length, take, drop, get_or};
 ghost use Rattle.ji.specs.Unicode.{unicode16, listed};
-ghost use Rattle.ji.specs.Text.{points as pointsOf, marked, begins, replaceAll};
+ghost use Rattle.ji.specs.Text.{points as points_of, marked, begins, replace_all};
 ghost use Rattle.ji.specs.Utf8.{encode};
 ghost use Rattle.ji.specs.Written.{Written};
-ghost use Rattle.ji.specs.Reply.{placed, textReply, good, checkText};
+ghost use Rattle.ji.specs.Reply.{placed, text_reply, good, check_text};
 ghost use Rattle.ji.specs.Lomaji.Keys.{respell};
-ghost use Rattle.khiin.specs.Syllable.{vowelRules, nasalRules, oRules, endsNasal, nasalised, moved, spelled, khinText, compose, composeOf, composeCall};
-ghost use Rattle.khiin.specs.Compose.{answerOf, Front, isPair, apartFrom, oPairs, ePairs, takesDot, NoPairIn, NoNasalBefore, NoSignBefore, settledBody, SettledAs, DotAt};
+ghost use Rattle.khiin.specs.Syllable.{vowel_rules, nasal_rules, o_rules, ends_nasal, nasalised, moved, spelled, khin_text, compose, compose_of, compose_call};
+ghost use Rattle.khiin.specs.Compose.{answer_of, Front, is_pair, apart_from, o_pairs, e_pairs, takes_dot, NoPairIn, NoNasalBefore, NoSignBefore, settled_body, SettledAs, DotAt};
 
 use crate::syllable::letters::{is_first, is_second};
 use crate::syllable::marking::{answer, insert_mark, place_spelled};
@@ -38,7 +38,7 @@ fn at(s: &[u16], i: usize) -> u16
 // Whether a pair of vowels that is replaced stands at `i`.
 fn is_pair(s: &[u16], i: usize) -> bool
     requires { i < length s.now }
-    ensures { result ≡ isPair (drop i s.now) }
+    ensures { result ≡ is_pair (drop i s.now) }
 {
     if is_first(s[i]) {
         return is_second(at(s, i + 1));
@@ -49,7 +49,7 @@ fn is_pair(s: &[u16], i: usize) -> bool
 // Where the first such pair stands from `from` on, and the length of `s` where there is none.
 fn next_pair(s: &[u16], from: usize) -> usize
     requires { from ≤ length s.now }
-    ensures { (from ≤ result) × (result ≤ length s.now) × NoPairIn from result s.now × (result < length s.now → isPair (drop result s.now) ≡ true) }
+    ensures { (from ≤ result) × (result ≤ length s.now) × NoPairIn from result s.now × (result < length s.now → is_pair (drop result s.now) ≡ true) }
 {
     let mut i: usize = from;
     while i < s.len() {
@@ -64,7 +64,7 @@ fn next_pair(s: &[u16], from: usize) -> usize
 // Whether the pair at `at`, the first, is the only one, and no o or e stands before it, which what becomes of it might be a pair with.
 fn is_alone(s: &[u16], at: usize) -> bool
     requires { at < length s.now }
-    ensures { result ≡ true → NoPairIn (at + 1) (length s.now) s.now × (0 < at → listed (pointsOf "oOeE") (get_or s.now (at - 1) 0) ≡ false) }
+    ensures { result ≡ true → NoPairIn (at + 1) (length s.now) s.now × (0 < at → listed (points_of "oOeE") (get_or s.now (at - 1) 0) ≡ false) }
 {
     if next_pair(s, at + 1) < s.len() {
         return false;
@@ -77,8 +77,8 @@ fn is_alone(s: &[u16], at: usize) -> bool
 
 // Replaces the pair at `at`: the vowel behind o gives way to U+0358; that behind e takes its place, with U+0324. 4F is O, 6F is o.
 fn respell_one(s: &mut [u16], at: usize)
-    requires { (at + 1 < length s.old) × (isPair (drop at s.old) ≡ true) × NoPairIn 0 at s.old × NoPairIn (at + 1) (length s.old) s.old × (0 < at → listed (pointsOf "oOeE") (get_or s.old (at - 1) 0) ≡ false) }
-    ensures { s.new ≡ respell vowelRules s.old }
+    requires { (at + 1 < length s.old) × (is_pair (drop at s.old) ≡ true) × NoPairIn 0 at s.old × NoPairIn (at + 1) (length s.old) s.old × (0 < at → listed (points_of "oOeE") (get_or s.old (at - 1) 0) ≡ false) }
+    ensures { s.new ≡ respell vowel_rules s.old }
 {
     match s[at] {
         0x4F | 0x6F => {
@@ -93,7 +93,7 @@ fn respell_one(s: &mut [u16], at: usize)
 
 // The vowel rules for o and the vowel behind it, which gives way to U+0358, in place: they keep the length. 4F is O, 6F is o.
 fn respell_o(s: &mut [u16], small: u16, capital: u16)
-    ensures { s.new ≡ respell (oPairs small capital) s.old }
+    ensures { s.new ≡ respell (o_pairs small capital) s.old }
 {
     replace_pair(s, 0x6F, small, 0x6F, 0x358);
     replace_pair(s, 0x6F, capital, 0x6F, 0x358);
@@ -103,7 +103,7 @@ fn respell_o(s: &mut [u16], small: u16, capital: u16)
 
 // Those for e and the vowel behind it, which comes first, with U+0324. 45 is E, 65 is e.
 fn respell_e(s: &mut [u16], small: u16, capital: u16)
-    ensures { s.new ≡ respell (ePairs small capital) s.old }
+    ensures { s.new ≡ respell (e_pairs small capital) s.old }
 {
     replace_pair(s, 0x65, small, small, 0x324);
     replace_pair(s, 0x45, small, small, 0x324);
@@ -133,7 +133,7 @@ fn are_letters(before: u16, x: u16, a: u16, b: u16, c: u16, d: u16) -> bool
 
 // Whether anywhere in `s` one of the letters `c` and `d` stands behind `a` or `b`.
 fn has_letters(s: &[u16], a: u16, b: u16, c: u16, d: u16) -> bool
-    ensures { result ≡ false → apartFrom (a ∷ b ∷ []) (c ∷ d ∷ []) 0 s.now ≡ true }
+    ensures { result ≡ false → apart_from (a ∷ b ∷ []) (c ∷ d ∷ []) 0 s.now ≡ true }
 {
     let mut before: u16 = 0;
     let mut i: usize = 0;
@@ -150,7 +150,7 @@ fn has_letters(s: &[u16], a: u16, b: u16, c: u16, d: u16) -> bool
 
 // The rules for o, where one of them has something to do: one look tells.
 fn respell_any_o(s: &mut [u16], small: u16, capital: u16)
-    ensures { s.new ≡ respell (oPairs small capital) s.old }
+    ensures { s.new ≡ respell (o_pairs small capital) s.old }
 {
     if has_letters(s, 0x6F, 0x4F, small, capital) {
         respell_o(s, small, capital);
@@ -160,7 +160,7 @@ fn respell_any_o(s: &mut [u16], small: u16, capital: u16)
 
 // The same for e.
 fn respell_any_e(s: &mut [u16], small: u16, capital: u16)
-    ensures { s.new ≡ respell (ePairs small capital) s.old }
+    ensures { s.new ≡ respell (e_pairs small capital) s.old }
 {
     if has_letters(s, 0x65, 0x45, small, capital) {
         respell_e(s, small, capital);
@@ -170,7 +170,7 @@ fn respell_any_e(s: &mut [u16], small: u16, capital: u16)
 
 // The sixteen vowel rules.
 fn respell_groups(s: &mut [u16])
-    ensures { s.new ≡ respell vowelRules s.old }
+    ensures { s.new ≡ respell vowel_rules s.old }
 {
     respell_any_o(s, 0x75, 0x55);
     respell_any_o(s, 0x6F, 0x4F);
@@ -180,7 +180,7 @@ fn respell_groups(s: &mut [u16])
 
 // The same, where one of them has something to do.
 fn respell_vowels(s: &mut [u16])
-    ensures { s.new ≡ respell vowelRules s.old }
+    ensures { s.new ≡ respell vowel_rules s.old }
 {
     let at = next_pair(s, 0);
     if at < s.len() {
@@ -205,7 +205,7 @@ fn takes_nasal(c: u16) -> bool
 
 // Whether the text ends in such a letter and nn.
 fn ends_nasal(s: &[u16]) -> bool
-    ensures { result ≡ endsNasal s.now }
+    ensures { result ≡ ends_nasal s.now }
 {
     let n = s.len();
     if n < 3 {
@@ -236,7 +236,7 @@ fn are_two(s: &[u16], i: usize, a: u16, b: u16) -> bool
 
 // Replaces each `a` `b` by `c`, in place, and returns how many code points are left.
 fn shrink_pair(s: &mut [u16], a: u16, b: u16, c: u16) -> usize
-    ensures { Written s.old s.new result (replaceAll (a ∷ b ∷ []) (c ∷ []) s.old) }
+    ensures { Written s.old s.new result (replace_all (a ∷ b ∷ []) (c ∷ []) s.old) }
 {
     let mut i: usize = 0;
     let mut n: usize = 0;
@@ -256,7 +256,7 @@ fn shrink_pair(s: &mut [u16], a: u16, b: u16, c: u16) -> usize
 
 // Takes each `c` out, in place, and returns how many code points are left.
 fn take_out(s: &mut [u16], c: u16) -> usize
-    ensures { Written s.old s.new result (replaceAll (c ∷ []) [] s.old) }
+    ensures { Written s.old s.new result (replace_all (c ∷ []) [] s.old) }
 {
     let mut i: usize = 0;
     let mut n: usize = 0;
@@ -274,7 +274,7 @@ fn take_out(s: &mut [u16], c: u16) -> usize
 
 // The four nasal rules, in place. By number: 4E N, 6E n.
 fn respell_nasals(s: &mut [u16]) -> usize
-    ensures { Front s.new result (respell nasalRules s.old) }
+    ensures { Front s.new result (respell nasal_rules s.old) }
 {
     let n = shrink_pair(s, 0x6E, 0x6E, SMALL_SIGN);
     let m = shrink_pair(&mut s[0..n], 0x6E, 0x4E, SMALL_SIGN);
@@ -300,8 +300,8 @@ fn has_nasal(s: &[u16]) -> bool
 
 // The nasal rules where nn stands at the end only: the sign takes its place. 4E is N.
 fn end_in_sign(s: &mut [u16]) -> usize
-    requires { (endsNasal s.old ≡ true) × NoNasalBefore s.old }
-    ensures { Front s.new result (respell nasalRules s.old) }
+    requires { (ends_nasal s.old ≡ true) × NoNasalBefore s.old }
+    ensures { Front s.new result (respell nasal_rules s.old) }
 {
     let n = s.len();
     if s[n - 1] == 0x4E {
@@ -387,7 +387,7 @@ fn move_signs(s: &mut [u16]) -> Settled
 
 // The vowel rules, the nasal rules and the moves to the end.
 fn settle(s: &mut [u16]) -> Settled
-    ensures { SettledAs s.new (settledBody s.old) result }
+    ensures { SettledAs s.new (settled_body s.old) result }
 {
     respell_vowels(s);
     let n = nasalise(s);
@@ -397,7 +397,7 @@ fn settle(s: &mut [u16]) -> Settled
 // Whether U+0358 goes behind the code point at `i`, by one of the O rules. By number: 48 H, 4F O, 68 h, 6F o.
 fn takes_dot(s: &[u16], i: usize) -> bool
     requires { i < length s.now }
-    ensures { result ≡ takesDot (drop i s.now) }
+    ensures { result ≡ takes_dot (drop i s.now) }
 {
     let c = at(s, i);
     let next = at(s, i + 1);
@@ -430,7 +430,7 @@ fn takes_dot(s: &[u16], i: usize) -> bool
 // The O rules, in one walk from `s` to the front of `out`: none of them touches what another has done.
 fn write_dotted(s: &[u16], out: &mut [u16]) -> usize
     requires { 2 * length s.now ≤ length out.old }
-    ensures { Written out.old out.new result (respell oRules s.now) × (result ≤ 2 * length s.now) }
+    ensures { Written out.old out.new result (respell o_rules s.now) × (result ≤ 2 * length s.now) }
 {
     let mut i: usize = 0;
     let mut n: usize = 0;
@@ -451,7 +451,7 @@ fn write_dotted(s: &[u16], out: &mut [u16]) -> usize
 // What stands in front of a text with khin.
 fn lead(khin: Khin, out: &mut [u16]) -> usize
     requires { 2 ≤ length out.old }
-    ensures { Written out.old out.new result (khinText khin) × (result ≤ 2) }
+    ensures { Written out.old out.new result (khin_text khin) × (result ≤ 2) }
 {
     match khin {
         Khin::No => 0,
@@ -489,7 +489,7 @@ fn dot_place(s: &[u16]) -> usize
 // The O rules in place, for the first `n` code points of `s`, which have no sign before their end.
 fn put_dot(s: &mut [u16], n: usize) -> usize
     requires { (n < length s.old) × NoSignBefore (take n s.old) }
-    ensures { Front s.new result (respell oRules (take n s.old)) × (result ≤ n + 1) }
+    ensures { Front s.new result (respell o_rules (take n s.old)) × (result ≤ n + 1) }
 {
     let at = dot_place(&s[0..n]);
     if at == 0 {
@@ -503,7 +503,7 @@ fn put_dot(s: &mut [u16], n: usize) -> usize
 // Writes `s` by the O rules, behind what khin puts there, to the front of `out`.
 fn write_whole(khin: Khin, s: &[u16], out: &mut [u16]) -> usize
     requires { 2 * length s.now + 2 ≤ length out.old }
-    ensures { Front out.new result (khinText khin ++ respell oRules s.now) × (result ≤ 2 * length s.now + 2) }
+    ensures { Front out.new result (khin_text khin ++ respell o_rules s.now) × (result ≤ 2 * length s.now + 2) }
 {
     let from = lead(khin, out);
     from + write_dotted(s, &mut out[from..])
@@ -512,7 +512,7 @@ fn write_whole(khin: Khin, s: &[u16], out: &mut [u16]) -> usize
 // Writes the text of a body that is spelled but for the O rules, from a buffer with room for these and for khin.
 fn place_dotted(raw: &[u8], s: &[u16], tone: Tone, khin: Khin, out: &mut [u8]) -> usize
     requires { length s.now ≤ 400 }
-    ensures { (rawInput body : List ℕ) → raw.now ≡ encode rawInput → settledBody body ≡ s.now → textReply (answerOf result) out.new ≡ placed 0 (encode (compose unicode16 rawInput body tone khin)) out.old }
+    ensures { (raw_input body : List ℕ) → raw.now ≡ encode raw_input → settled_body body ≡ s.now → text_reply (answer_of result) out.new ≡ placed 0 (encode (compose unicode16 raw_input body tone khin)) out.old }
 {
     let mut b = [0u16; 803];
     let n = write_whole(khin, s, &mut b);
@@ -529,7 +529,7 @@ fn place_settled(
     out: &mut [u8],
 ) -> usize
     requires { (settled.len ≤ 400) × (settled.len + 1 < length s.old) × (settled.lone ≡ true → NoSignBefore (take settled.len s.old)) }
-    ensures { (rawInput body : List ℕ) → raw.now ≡ encode rawInput → settledBody body ≡ take settled.len s.old → textReply (answerOf result) out.new ≡ placed 0 (encode (compose unicode16 rawInput body tone khin)) out.old }
+    ensures { (raw_input body : List ℕ) → raw.now ≡ encode raw_input → settled_body body ≡ take settled.len s.old → text_reply (answer_of result) out.new ≡ placed 0 (encode (compose unicode16 raw_input body tone khin)) out.old }
 {
     let n = settled.len;
     match khin {
@@ -554,7 +554,7 @@ pub(crate) fn compose_points(
     out: &mut [u8],
 ) -> usize
     requires { (n ≤ 400) × (n + 1 < length s.old) }
-    ensures { (rawInput : List ℕ) → raw.now ≡ encode rawInput → textReply (answerOf result) out.new ≡ placed 0 (encode (compose unicode16 rawInput (take n s.old) tone khin)) out.old }
+    ensures { (raw_input : List ℕ) → raw.now ≡ encode raw_input → text_reply (answer_of result) out.new ≡ placed 0 (encode (compose unicode16 raw_input (take n s.old) tone khin)) out.old }
 {
     let settled = settle(&mut s[0..n]);
     place_settled(raw, s, settled, tone, khin, out)
@@ -571,7 +571,7 @@ fn compose_body(
     out: &mut [u8],
 ) -> TextAnswer
     requires { (length body.now ≤ 256) × (length body.now ≤ length points.old) × (length body.now + 1 < length points.old) }
-    ensures { (rawInput : List ℕ) → raw.now ≡ encode rawInput → textReply result out.new ≡ composeOf unicode16 tone khin (good rawInput) (checkText unicode16 body.now) out.old }
+    ensures { (raw_input : List ℕ) → raw.now ≡ encode raw_input → text_reply result out.new ≡ compose_of unicode16 tone khin (good raw_input) (check_text unicode16 body.now) out.old }
 {
     match unicode::points(body, points) {
         Decoded::Refused(why) => TextAnswer::Refused(why),
@@ -585,7 +585,7 @@ fn compose_body(
 // A short body, in a small buffer, since clearing this is quicker.
 fn compose_short(raw: &[u8], body: &[u8], tone: Tone, khin: Khin, out: &mut [u8]) -> TextAnswer
     requires { length body.now ≤ 16 }
-    ensures { (rawInput : List ℕ) → raw.now ≡ encode rawInput → textReply result out.new ≡ composeOf unicode16 tone khin (good rawInput) (checkText unicode16 body.now) out.old }
+    ensures { (raw_input : List ℕ) → raw.now ≡ encode raw_input → text_reply result out.new ≡ compose_of unicode16 tone khin (good raw_input) (check_text unicode16 body.now) out.old }
 {
     let mut points = [0u16; 18];
     compose_body(raw, body, tone, khin, &mut points, out)
@@ -594,7 +594,7 @@ fn compose_short(raw: &[u8], body: &[u8], tone: Tone, khin: Khin, out: &mut [u8]
 // Any other.
 fn compose_long(raw: &[u8], body: &[u8], tone: Tone, khin: Khin, out: &mut [u8]) -> TextAnswer
     requires { length body.now ≤ 256 }
-    ensures { (rawInput : List ℕ) → raw.now ≡ encode rawInput → textReply result out.new ≡ composeOf unicode16 tone khin (good rawInput) (checkText unicode16 body.now) out.old }
+    ensures { (raw_input : List ℕ) → raw.now ≡ encode raw_input → text_reply result out.new ≡ compose_of unicode16 tone khin (good raw_input) (check_text unicode16 body.now) out.old }
 {
     let mut points = [0u16; 258];
     compose_body(raw, body, tone, khin, &mut points, out)
@@ -603,7 +603,7 @@ fn compose_long(raw: &[u8], body: &[u8], tone: Tone, khin: Khin, out: &mut [u8])
 // A body of any length that is allowed.
 fn compose_any(raw: &[u8], body: &[u8], tone: Tone, khin: Khin, out: &mut [u8]) -> TextAnswer
     requires { length body.now ≤ 256 }
-    ensures { (rawInput : List ℕ) → raw.now ≡ encode rawInput → textReply result out.new ≡ composeOf unicode16 tone khin (good rawInput) (checkText unicode16 body.now) out.old }
+    ensures { (raw_input : List ℕ) → raw.now ≡ encode raw_input → text_reply result out.new ≡ compose_of unicode16 tone khin (good raw_input) (check_text unicode16 body.now) out.old }
 {
     let size = compose_plain(raw, body, tone, khin, out);
     if 0 < size {
@@ -617,7 +617,7 @@ fn compose_any(raw: &[u8], body: &[u8], tone: Tone, khin: Khin, out: &mut [u8]) 
 
 // `compose`: the text of the syllable with this raw input, body, tone and khin, in `out`.
 pub fn compose(raw: &[u8], body: &[u8], tone: Tone, khin: Khin, out: &mut [u8]) -> TextAnswer
-    ensures { textReply result out.new ≡ composeCall unicode16 raw.now body.now tone khin out.old }
+    ensures { text_reply result out.new ≡ compose_call unicode16 raw.now body.now tone khin out.old }
 {
     match unicode::check(raw, 256) {
         Verdict::Refused(why) => TextAnswer::Refused(why),

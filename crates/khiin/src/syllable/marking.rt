@@ -2,11 +2,11 @@
 // and the mark give way to their composite, or stand beside each other.
 ghost use Rattle.std.specs.Prelude.{◌≡◌, true, List, ◌∷◌, ◌++◌, ℕ, ◌+◌, ◌*◌, ◌≤◌, ◌<◌, length, take, drop, get_or};
 ghost use Rattle.ji.specs.Unicode.{unicode16, listed};
-ghost use Rattle.ji.specs.Text.{points as pointsOf};
-ghost use Rattle.ji.specs.Utf8.{bytesOf, encode};
-ghost use Rattle.ji.specs.Reply.{placed, textReply};
-ghost use Rattle.khiin.specs.Syllable.{mark_of, encoded, composedWith};
-ghost use Rattle.khiin.specs.Compose.{Front, markText, answerOf, staysBehind, settledFrom, Joined, inserted};
+ghost use Rattle.ji.specs.Text.{points as points_of};
+ghost use Rattle.ji.specs.Utf8.{bytes_of, encode};
+ghost use Rattle.ji.specs.Reply.{placed, text_reply};
+ghost use Rattle.khiin.specs.Syllable.{mark_of, encoded, composed_with};
+ghost use Rattle.khiin.specs.Compose.{Front, mark_text, answer_of, stays_behind, settled_from, Joined, inserted};
 
 use ji::lomaji::tone_letter::{Place, tone_position};
 use ji::nfc::place_exchanged;
@@ -24,7 +24,7 @@ pub(crate) enum Mark {
 
 // The mark of a tone.
 pub(crate) fn mark_of(tone: Tone) -> Mark
-    ensures { markText result ≡ mark_of tone }
+    ensures { mark_text result ≡ mark_of tone }
 {
     match tone {
         Tone::None => Mark::Nothing,
@@ -195,7 +195,7 @@ pub(crate) fn joined(x: u16, mark: u16) -> u16
 
 // Whether U+0324 makes no composite with `x`.
 fn is_o(x: u16) -> bool
-    ensures { result ≡ listed (pointsOf "oO") x }
+    ensures { result ≡ listed (points_of "oO") x }
 {
     match x {
         0x4F | 0x6F => true,
@@ -205,7 +205,7 @@ fn is_o(x: u16) -> bool
 
 // Whether `x` stays as it is behind `before`.
 fn stays_behind(before: u16, x: u16) -> bool
-    ensures { result ≡ true → staysBehind before x ≡ true }
+    ensures { result ≡ true → stays_behind before x ≡ true }
 {
     if x < 0xC0 {
         return true;
@@ -219,7 +219,7 @@ fn stays_behind(before: u16, x: u16) -> bool
 
 // Whether `s` needs no normalising, nor will with a tone mark behind one of its letters.
 fn is_settled(s: &[u16]) -> bool
-    ensures { result ≡ true → settledFrom 0 s.now ≡ true }
+    ensures { result ≡ true → settled_from 0 s.now ≡ true }
 {
     let mut before: u16 = 0;
     let mut i: usize = 0;
@@ -251,7 +251,7 @@ pub(crate) fn insert_mark(s: &mut [u16], k: usize, mark: u16)
 // Writes the text `s` to `out`, and returns one more than its length in bytes, or 0 where there is no room. A number is passed on at no cost, and
 // the answer that it stands for is not.
 fn place(s: &[u16], out: &mut [u8]) -> usize
-    ensures { textReply (answerOf result) out.new ≡ placed 0 (encode s.now) out.old }
+    ensures { text_reply (answer_of result) out.new ≡ placed 0 (encode s.now) out.old }
 {
     match reply::place(s, out) {
         TextAnswer::Refused(_) => 0,
@@ -261,7 +261,7 @@ fn place(s: &[u16], out: &mut [u8]) -> usize
 
 // The same of the bytes `s` of a text.
 pub(crate) fn place_bytes(s: &[u8], out: &mut [u8]) -> usize
-    ensures { textReply (answerOf result) out.new ≡ placed 0 s.now out.old }
+    ensures { text_reply (answer_of result) out.new ≡ placed 0 s.now out.old }
 {
     match reply::place_bytes(s, out) {
         TextAnswer::Refused(_) => 0,
@@ -271,7 +271,7 @@ pub(crate) fn place_bytes(s: &[u8], out: &mut [u8]) -> usize
 
 // The same of the bytes `before` and `after`, with the code point `x` between them.
 pub(crate) fn place_between(before: &[u8], x: u16, after: &[u8], out: &mut [u8]) -> usize
-    ensures { textReply (answerOf result) out.new ≡ placed 0 (before.now ++ (bytesOf x ++ after.now)) out.old }
+    ensures { text_reply (answer_of result) out.new ≡ placed 0 (before.now ++ (bytes_of x ++ after.now)) out.old }
 {
     match reply::place_between(before, x, after, out) {
         TextAnswer::Refused(_) => 0,
@@ -281,7 +281,7 @@ pub(crate) fn place_between(before: &[u8], x: u16, after: &[u8], out: &mut [u8])
 
 // The answer that such a number stands for.
 pub(crate) fn answer(size: usize) -> TextAnswer
-    ensures { result ≡ answerOf size }
+    ensures { result ≡ answer_of size }
 {
     if size == 0 {
         return TextAnswer::Refused(Refusal::NoRoom);
@@ -292,7 +292,7 @@ pub(crate) fn answer(size: usize) -> TextAnswer
 // Writes `s` in compose's encoding to `out`: its NFC, with each U+0324 U+030D exchanged.
 fn place_encoded(s: &[u16], out: &mut [u8]) -> usize
     requires { length s.now ≤ 803 }
-    ensures { textReply (answerOf result) out.new ≡ placed 0 (encode (encoded unicode16 s.now)) out.old }
+    ensures { text_reply (answer_of result) out.new ≡ placed 0 (encode (encoded unicode16 s.now)) out.old }
 {
     match place_exchanged(s, 0x0324, 0x030D, out) {
         TextAnswer::Refused(_) => 0,
@@ -303,7 +303,7 @@ fn place_encoded(s: &[u16], out: &mut [u8]) -> usize
 // Writes `s` in compose's encoding, without a mark.
 fn place_unmarked(s: &[u16], out: &mut [u8]) -> usize
     requires { length s.now ≤ 803 }
-    ensures { textReply (answerOf result) out.new ≡ placed 0 (encode (encoded unicode16 s.now)) out.old }
+    ensures { text_reply (answer_of result) out.new ≡ placed 0 (encode (encoded unicode16 s.now)) out.old }
 {
     if is_settled(s) {
         return place(s, out);
@@ -314,7 +314,7 @@ fn place_unmarked(s: &[u16], out: &mut [u8]) -> usize
 // What `joined` says of the letter at `k` and the mark where the text is settled, and 0 where it is not.
 fn joined_at(s: &[u16], k: usize, mark: u16) -> u16
     requires { k < length s.now }
-    ensures { 0 < result → (settledFrom 0 s.now ≡ true) × Joined (get_or s.now k 0) mark result }
+    ensures { 0 < result → (settled_from 0 s.now ≡ true) × Joined (get_or s.now k 0) mark result }
 {
     if is_settled(s) {
         return joined(s[k], mark);
@@ -325,7 +325,7 @@ fn joined_at(s: &[u16], k: usize, mark: u16) -> u16
 // Writes the first `n` code points of `s` with `mark` behind the letter at `k`.
 fn place_marked(s: &mut [u16], n: usize, k: usize, mark: u16, out: &mut [u8]) -> usize
     requires { (k < n) × (n < length s.old) × (n ≤ 802) }
-    ensures { textReply (answerOf result) out.new ≡ placed 0 (encode (encoded unicode16 (take (k + 1) (take n s.old) ++ (mark ∷ drop (k + 1) (take n s.old))))) out.old }
+    ensures { text_reply (answer_of result) out.new ≡ placed 0 (encode (encoded unicode16 (take (k + 1) (take n s.old) ++ (mark ∷ drop (k + 1) (take n s.old))))) out.old }
 {
     let c = joined_at(&s[0..n], k, mark);
     if 1 < c {
@@ -352,7 +352,7 @@ pub(crate) fn place_spelled(
     out: &mut [u8],
 ) -> usize
     requires { (n < length s.old) × (n ≤ 802) }
-    ensures { (rawInput : List ℕ) → raw.now ≡ encode rawInput → textReply (answerOf result) out.new ≡ placed 0 (encode (composedWith unicode16 rawInput (take n s.old) (mark_of tone))) out.old }
+    ensures { (raw_input : List ℕ) → raw.now ≡ encode raw_input → text_reply (answer_of result) out.new ≡ placed 0 (encode (composed_with unicode16 raw_input (take n s.old) (mark_of tone))) out.old }
 {
     match mark_of(tone) {
         Mark::Nothing => place_unmarked(&s[0..n], out),

@@ -2,10 +2,10 @@
 // letter and its mark among them. A function here returns 0, and writes nothing, where this way does not go.
 ghost use Rattle.std.specs.Prelude.{◌≡◌, true, false, ◌&&◌, List, ◌∷◌, ◌++◌, ℕ, ◌+◌, ◌<◌, length, take, drop};
 ghost use Rattle.ji.specs.Unicode.{unicode16, listed};
-ghost use Rattle.ji.specs.Text.{points as pointsOf, allAscii};
+ghost use Rattle.ji.specs.Text.{points as points_of, all_ascii};
 ghost use Rattle.ji.specs.Utf8.{encode};
 ghost use Rattle.ji.specs.Reply.{placed};
-ghost use Rattle.khiin.specs.Syllable.{endsNasal, mark_of, encoded, composedWith, compose};
+ghost use Rattle.khiin.specs.Syllable.{ends_nasal, mark_of, encoded, composed_with, compose};
 ghost use Rattle.khiin.specs.Compose.{Plain, QuickAs};
 
 use crate::syllable::letters::{is_first, is_second};
@@ -17,7 +17,7 @@ use ji::tone::Tone;
 
 // Whether `s` ends in nn, case ignored, behind something.
 fn ends_in_nn(s: &[u8]) -> bool
-    ensures { result ≡ false → endsNasal s.now ≡ false }
+    ensures { result ≡ false → ends_nasal s.now ≡ false }
 {
     let n = s.len();
     if n < 3 {
@@ -31,7 +31,7 @@ fn ends_in_nn(s: &[u8]) -> bool
 
 // Whether `before` and `x` are a pair of vowels that is replaced.
 fn are_pair(before: u8, x: u8) -> bool
-    ensures { result ≡ (listed (pointsOf "oOeE") before && listed (pointsOf "oOuU") x) }
+    ensures { result ≡ (listed (points_of "oOeE") before && listed (points_of "oOuU") x) }
 {
     if is_second(x as u16) {
         return is_first(before as u16);
@@ -61,7 +61,7 @@ fn is_plain(s: &[u8]) -> bool
 
 // Writes `s`, with `mark` behind its letter at `k`, in compose's encoding.
 fn place_joined(s: &[u8], k: usize, mark: u16, out: &mut [u8]) -> usize
-    requires { (k < length s.now) × (allAscii s.now ≡ true) }
+    requires { (k < length s.now) × (all_ascii s.now ≡ true) }
     ensures { QuickAs result out.old out.new (placed 0 (encode (encoded unicode16 (take (k + 1) s.now ++ (mark ∷ drop (k + 1) s.now)))) out.old) }
 {
     let c = joined(s[k] as u16, mark);
@@ -77,8 +77,8 @@ fn place_joined(s: &[u8], k: usize, mark: u16, out: &mut [u8]) -> usize
 
 // Writes the text that `s`, as it is spelled, has with the mark of the tone; or the raw input, where there is no letter for it.
 fn place_plain(raw: &[u8], s: &[u8], tone: Tone, out: &mut [u8]) -> usize
-    requires { allAscii s.now ≡ true }
-    ensures { (rawInput : List ℕ) → raw.now ≡ encode rawInput → QuickAs result out.old out.new (placed 0 (encode (composedWith unicode16 rawInput s.now (mark_of tone))) out.old) }
+    requires { all_ascii s.now ≡ true }
+    ensures { (raw_input : List ℕ) → raw.now ≡ encode raw_input → QuickAs result out.old out.new (placed 0 (encode (composed_with unicode16 raw_input s.now (mark_of tone))) out.old) }
 {
     match mark_of(tone) {
         Mark::Nothing => place_bytes(s, out),
@@ -94,7 +94,7 @@ fn place_plain(raw: &[u8], s: &[u8], tone: Tone, out: &mut [u8]) -> usize
 
 // Composes the body `s`, if it is plain and has no khin.
 pub(crate) fn compose_plain(raw: &[u8], s: &[u8], tone: Tone, khin: Khin, out: &mut [u8]) -> usize
-    ensures { (0 < result → allAscii s.now ≡ true) × ((rawInput : List ℕ) → raw.now ≡ encode rawInput → QuickAs result out.old out.new (placed 0 (encode (compose unicode16 rawInput s.now tone khin)) out.old)) }
+    ensures { (0 < result → all_ascii s.now ≡ true) × ((raw_input : List ℕ) → raw.now ≡ encode raw_input → QuickAs result out.old out.new (placed 0 (encode (compose unicode16 raw_input s.now tone khin)) out.old)) }
 {
     match khin {
         Khin::Yes => 0,

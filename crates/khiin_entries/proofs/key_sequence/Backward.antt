@@ -13,12 +13,12 @@ pub record Backward (before after whole rest : List ℕ) (at end : ℕ) : Type 0
   pub sized : at + length done ≡ end
   pub is : after ≡ take at before ++ (done ++ drop end before)
 
-pub backward-start : (before whole : List ℕ) (end : ℕ) → Backward before before whole whole end end
-backward-start before whole end = record { done = []; all = append-nil whole; sized = omega arith; is = sym (take-append-drop end before) }
+pub backward_start : (before whole : List ℕ) (end : ℕ) → Backward before before whole whole end end
+backward_start before whole end = record { done = []; all = append-nil whole; sized = omega arith; is = sym (take-append-drop end before) }
 
 module _ {before after whole rest : List ℕ} {at end : ℕ} (h : Backward before after whole rest at end) (room : end ≤ length before) where
-  pub backward-step : (rest' piece : List ℕ) (at' : ℕ) → rest ≡ rest' ++ piece → at' + length piece ≡ at → Backward before (paste after at' piece (length piece)) whole rest' at' end
-  backward-step rest' piece at' e n =
+  pub backward_step : (rest' piece : List ℕ) (at' : ℕ) → rest ≡ rest' ++ piece → at' + length piece ≡ at → Backward before (paste after at' piece (length piece)) whole rest' at' end
+  backward_step rest' piece at' e n =
       let d = h.done in
       let tail = d ++ drop end before in
       let s : at + length d ≡ end = h.sized in
@@ -35,14 +35,14 @@ module _ {before after whole rest : List ℕ} {at end : ℕ} (h : Backward befor
             ∙ ap (λ (l : List ℕ). take at' before ++ l) (sym (append_assoc piece d (drop end before)));
       }
 
-  pub backward-length : length after ≡ length before
-  backward-length =
+  pub backward_length : length after ≡ length before
+  backward_length =
       let s : at + length h.done ≡ end = h.sized in
       ap length h.is ∙ simp (length-append, length-drop) (omega (arith, length-take-le at before (omega arith)))
 
   -- nothing is left
-  pub backward-end : rest ≡ [] → (n : ℕ) → length whole ≡ n → after ≡ paste before (end - n) whole n
-  backward-end e n size =
+  pub backward_end : rest ≡ [] → (n : ℕ) → length whole ≡ n → after ≡ paste before (end - n) whole n
+  backward_end e n size =
       let d = h.done in
       let is : d ≡ whole = ap (λ (l : List ℕ). l ++ d) (sym e) ∙ h.all in
       let s : at + n ≡ end = ap (λ (k : ℕ). at + k) (sym (ap length is ∙ size)) ∙ h.sized in

@@ -9,42 +9,42 @@ use borrow.Author.Tests.{lt-ltb, le-ltb, ltb-true, le-leb, lt-leb}
 use lib.Dec.{ltb, leb}
 use lib.ListN.{length, drop, get_or}
 use lib.Seq.{paste, take-length}
-use Rattle.ji.specs.Unicode.{unicode16, pickNumber}
+use Rattle.ji.specs.Unicode.{unicode16, pick_number}
 use Rattle.ji.specs.Utf8.{encode}
-use Rattle.ji.specs.Reply.{Reply, refused, over, pickReply, Checked, good, bad, pickChecked, checkWithin, verdictOf}
+use Rattle.ji.specs.Reply.{Reply, refused, over, pick_reply, Checked, good, bad, pick_checked, check_within, verdict_of}
 use Rattle.ji.specs.declared.reply.Refusal.{Refusal}
 use Rattle.ji.specs.declared.reply.Refusal.TheVariants.{Parts, Position, NoRoom}
 use Rattle.ji.specs.declared.unicode.Verdict.{Verdict}
 use Rattle.ji.specs.declared.unicode.Verdict.TheVariants.{Good, Refused}
 use Rattle.ji.specs.declared.lomaji.keys.Kind.{Kind}
-use Rattle.ji.proofs.Bools.{either, and-yes}
-use Rattle.ji.proofs.unicode.Checked.{Passed, check-passed}
-use Rattle.khiin_entries.specs.KeySequence.{split, keyings, partsFit, checkParts, checkEntry, keyed, placedKeying, keyingAt, keyingOf, keyingCall}
-use Rattle.khiin_entries.specs.Choices.{pointsOf, allShort, partCount, Entry, choicesIn, laidOut, Laid, countIn, keyingIn, laidReply}
-use Rattle.khiin_entries.proofs.key_sequence.Splitting.{some-part, points-back, parts-are, parts-count, short-bytes}
-use Rattle.khiin_entries.proofs.key_sequence.Combining.{count-is, keying-is}
+use Rattle.ji.proofs.Bools.{either, and_yes}
+use Rattle.ji.proofs.unicode.Checked.{Passed, check_passed}
+use Rattle.khiin_entries.specs.KeySequence.{split, keyings, parts_fit, check_parts, check_entry, keyed, placed_keying, keying_at, keying_of, keying_call}
+use Rattle.khiin_entries.specs.Choices.{points_of, all_short, part_count, Entry, choices_in, laid_out, Laid, count_in, keying_in, laid_reply}
+use Rattle.khiin_entries.proofs.key_sequence.Splitting.{some_part, points_back, parts_are, parts_count, short_bytes}
+use Rattle.khiin_entries.proofs.key_sequence.Combining.{count_is, keying_is}
 use Rattle.khiin_entries.proofs.key_sequence.Product.{size, place}
-use Rattle.khiin_entries.proofs.key_sequence.Laying.{count-laid, keying-laid}
-use Rattle.khiin_entries.proofs.key_sequence.Filling.{entry-passed, entry-parts}
+use Rattle.khiin_entries.proofs.key_sequence.Laying.{count_laid, keying_laid}
+use Rattle.khiin_entries.proofs.key_sequence.Filling.{entry_passed, entry_parts}
 
 -- ── the reply from the arrays
 module _ (count : ℕ) (output : List ℕ) (position : ℕ) (buffer : List ℕ) where
-  pub laid-position : count ≤ position → refused Position buffer ≡ laidReply count output position buffer
-  laid-position h = sym (ap (λ (b : Bool). pickReply b (placedKeying unicode16 count output buffer) (refused Position buffer)) (le-ltb position count h))
+  pub laid_position : count ≤ position → refused Position buffer ≡ laid_reply count output position buffer
+  laid_position h = sym (ap (λ (b : Bool). pick_reply b (placed_keying unicode16 count output buffer) (refused Position buffer)) (le-ltb position count h))
 
   module _ (h : position < count) where
-    placed-here : placedKeying unicode16 count output buffer ≡ laidReply count output position buffer
-    placed-here = sym (ap (λ (b : Bool). pickReply b (placedKeying unicode16 count output buffer) (refused Position buffer)) (lt-ltb position count h))
+    placed_here : placed_keying unicode16 count output buffer ≡ laid_reply count output position buffer
+    placed_here = sym (ap (λ (b : Bool). pick_reply b (placed_keying unicode16 count output buffer) (refused Position buffer)) (lt-ltb position count h))
 
-    pub laid-no-room : length buffer < length output → refused NoRoom buffer ≡ laidReply count output position buffer
-    laid-no-room k = sym (ap (λ (b : Bool). pickReply b (keyed unicode16 count output buffer) (refused NoRoom buffer)) (lt-leb (length output) (length buffer) k)) ∙ placed-here
+    pub laid_no_room : length buffer < length output → refused NoRoom buffer ≡ laid_reply count output position buffer
+    laid_no_room k = sym (ap (λ (b : Bool). pick_reply b (keyed unicode16 count output buffer) (refused NoRoom buffer)) (lt-leb (length output) (length buffer) k)) ∙ placed_here
 
     -- the keying was written so that it ends at its length
-    pub laid-done : (n : ℕ) (after : List ℕ) → length output ≡ n → n ≤ length buffer → after ≡ paste buffer (n - n) output n
-        → ◌≡◌ {A = Reply} (record { code = 0; length = n; count = count; body = 0; tone = 0; khin = 0; position = 0; buffer = after }) (laidReply count output position buffer)
-    laid-done n after e k put =
+    pub laid_done : (n : ℕ) (after : List ℕ) → length output ≡ n → n ≤ length buffer → after ≡ paste buffer (n - n) output n
+        → ◌≡◌ {A = Reply} (record { code = 0; length = n; count = count; body = 0; tone = 0; khin = 0; position = 0; buffer = after }) (laid_reply count output position buffer)
+    laid_done n after e k put =
         let whole : after ≡ over output buffer = put ∙ ap (λ (m : ℕ). paste buffer m output n) (sub_self n) ∙ front n e in
-        rw (whole, ← e) (sym (ap (λ (b : Bool). pickReply b (keyed unicode16 count output buffer) (refused NoRoom buffer)) (le-leb (length output) (length buffer) (rw e k))) ∙ placed-here)
+        rw (whole, ← e) (sym (ap (λ (b : Bool). pick_reply b (keyed unicode16 count output buffer) (refused NoRoom buffer)) (le-leb (length output) (length buffer) (rw e k))) ∙ placed_here)
       where
         front : (n : ℕ) → length output ≡ n → paste buffer 0 output n ≡ over output buffer
         front n e = rw (zero-add n, ← e) (ap (λ (l : List ℕ). l ++ drop (length output) buffer) (take-length output))
@@ -52,95 +52,95 @@ module _ (count : ℕ) (output : List ℕ) (position : ℕ) (buffer : List ℕ) 
 -- ── a good entry
 module _ {entry : List ℕ} {parts : ℕ} (h : Entry entry parts) (kind : Kind) (position : ℕ) (buffer : List ℕ) where
   abbrev s : List ℕ
-  s = pointsOf entry
+  s = points_of entry
 
-  pub checked-good : checkEntry unicode16 entry ≡ good s
-  unfolding checkEntry
-  checked-good =
-      let p = entry-passed h in
-      let q = entry-parts h in
-      let few : length (split s) ≤ 16 = omega (arith, q.0, q.1, parts-count entry s p) in
-      let short : partsFit unicode16 (split s) ≡ true = sym (short-bytes unicode16 (split s)) ∙ ap allShort (sym (parts-are entry s p)) ∙ q.2 in
-      ap (checkParts unicode16) h.checked
-      ∙ ap (λ (b : Bool). pickChecked b (good s) (bad Parts)) (and-yes (leb (length (split s)) 16) (partsFit unicode16 (split s)) (le-leb (length (split s)) 16 few) ∙ short)
+  pub checked_good : check_entry unicode16 entry ≡ good s
+  unfolding check_entry
+  checked_good =
+      let p = entry_passed h in
+      let q = entry_parts h in
+      let few : length (split s) ≤ 16 = omega (arith, q.0, q.1, parts_count entry s p) in
+      let short : parts_fit unicode16 (split s) ≡ true = sym (short_bytes unicode16 (split s)) ∙ ap all_short (sym (parts_are entry s p)) ∙ q.2 in
+      ap (check_parts unicode16) h.checked
+      ∙ ap (λ (b : Bool). pick_checked b (good s) (bad Parts)) (and_yes (leb (length (split s)) 16) (parts_fit unicode16 (split s)) (le-leb (length (split s)) 16 few) ∙ short)
 
-  call-good : keyingCall unicode16 entry kind position buffer ≡ keyingAt unicode16 (keyings unicode16 kind s) position buffer
-  unfolding keyingCall
-  call-good = ap (λ (c : Checked). keyingOf unicode16 kind c position buffer) checked-good
+  call_good : keying_call unicode16 entry kind position buffer ≡ keying_at unicode16 (keyings unicode16 kind s) position buffer
+  unfolding keying_call
+  call_good = ap (λ (c : Checked). keying_of unicode16 kind c position buffer) checked_good
 
   module _ (forms : List ℕ) (offsets lengths : List (List ℕ)) (radices : List ℕ) (used : ℕ)
-      (laid : Laid offsets lengths radices parts used) (texts : laidOut forms offsets lengths radices parts ≡ choicesIn unicode16 kind entry) where
-    pub laid-count : countIn radices parts ≡ length (keyings unicode16 kind s)
-    laid-count = sym (count-laid forms offsets lengths radices parts) ∙ ap size texts ∙ sym (count-is entry s (entry-passed h) kind)
+      (laid : Laid offsets lengths radices parts used) (texts : laid_out forms offsets lengths radices parts ≡ choices_in unicode16 kind entry) where
+    pub laid_count : count_in radices parts ≡ length (keyings unicode16 kind s)
+    laid_count = sym (count_laid forms offsets lengths radices parts) ∙ ap size texts ∙ sym (count_is entry s (entry_passed h) kind)
 
-    pub laid-keying : position < countIn radices parts → keyingIn forms offsets lengths radices parts position ≡ encode (get_or (keyings unicode16 kind s) position [])
-    laid-keying k =
-        keying-laid offsets lengths radices used forms parts position laid
+    pub laid_keying : position < count_in radices parts → keying_in forms offsets lengths radices parts position ≡ encode (get_or (keyings unicode16 kind s) position [])
+    laid_keying k =
+        keying_laid offsets lengths radices used forms parts position laid
         ∙ ap (λ (xss : List (List (List ℕ))). place xss position) texts
-        ∙ sym (keying-is entry s (entry-passed h) kind position (omega (arith, count-laid forms offsets lengths radices parts, ap size texts)))
+        ∙ sym (keying_is entry s (entry_passed h) kind position (omega (arith, count_laid forms offsets lengths radices parts, ap size texts)))
 
     -- the arrays give what the call replies
-    pub laid-call : laidReply (countIn radices parts) (keyingIn forms offsets lengths radices parts position) position buffer ≡ keyingCall unicode16 entry kind position buffer
-    laid-call =
-        let n = countIn radices parts in
-        let k = keyingIn forms offsets lengths radices parts position in
+    pub laid_call : laid_reply (count_in radices parts) (keying_in forms offsets lengths radices parts position) position buffer ≡ keying_call unicode16 entry kind position buffer
+    laid_call =
+        let n = count_in radices parts in
+        let k = keying_in forms offsets lengths radices parts position in
         let e = encode (get_or (keyings unicode16 kind s) position []) in
         either (ltb position n)
-        (λ b. ap (λ (l : List ℕ). laidReply n l position buffer) (laid-keying (ltb-true position n b)))
-        (λ b. ap (λ (x : Bool). pickReply x (placedKeying unicode16 n k buffer) (refused Position buffer)) b ∙ sym (ap (λ (x : Bool). pickReply x (placedKeying unicode16 n e buffer) (refused Position buffer)) b))
-        ∙ ap (λ (m : ℕ). laidReply m e position buffer) laid-count
-        ∙ sym call-good
+        (λ b. ap (λ (l : List ℕ). laid_reply n l position buffer) (laid_keying (ltb-true position n b)))
+        (λ b. ap (λ (x : Bool). pick_reply x (placed_keying unicode16 n k buffer) (refused Position buffer)) b ∙ sym (ap (λ (x : Bool). pick_reply x (placed_keying unicode16 n e buffer) (refused Position buffer)) b))
+        ∙ ap (λ (m : ℕ). laid_reply m e position buffer) laid_count
+        ∙ sym call_good
 
 -- ── any entry
 -- what a verdict says of the check
-verdict-good : (c : Checked) → verdictOf c ≡ Good → (s : List ℕ) × (c ≡ good s)
-verdict-good (good s) e = (s, refl)
-verdict-good (bad why) e = absurd (let z : ◌≡◌ {A = ℕ} 0 1 = cc in omega arith)
+verdict_good : (c : Checked) → verdict_of c ≡ Good → (s : List ℕ) × (c ≡ good s)
+verdict_good (good s) e = (s, refl)
+verdict_good (bad why) e = absurd (let z : ◌≡◌ {A = ℕ} 0 1 = cc in omega arith)
 
-pub verdict-bad : (c : Checked) (why : Refusal) → verdictOf c ≡ Refused why → c ≡ bad why
-verdict-bad (good s) why e = absurd (let z : ◌≡◌ {A = ℕ} 0 1 = cc in omega arith)
-verdict-bad (bad w) why e = cc
+pub verdict_bad : (c : Checked) (why : Refusal) → verdict_of c ≡ Refused why → c ≡ bad why
+verdict_bad (good s) why e = absurd (let z : ◌≡◌ {A = ℕ} 0 1 = cc in omega arith)
+verdict_bad (bad w) why e = cc
 
-module _ (entry : List ℕ) (answer : Verdict) (says : answer ≡ verdictOf (checkWithin unicode16 1024 entry)) where
-  pub call-refused : (kind : Kind) (position : ℕ) (buffer : List ℕ) (why : Refusal) → answer ≡ Refused why → refused why buffer ≡ keyingCall unicode16 entry kind position buffer
-  unfolding keyingCall checkEntry
-  call-refused kind position buffer why e =
-      sym (ap (λ (c : Checked). keyingOf unicode16 kind (checkParts unicode16 c) position buffer) (verdict-bad (checkWithin unicode16 1024 entry) why (sym says ∙ e)))
+module _ (entry : List ℕ) (answer : Verdict) (says : answer ≡ verdict_of (check_within unicode16 1024 entry)) where
+  pub call_refused : (kind : Kind) (position : ℕ) (buffer : List ℕ) (why : Refusal) → answer ≡ Refused why → refused why buffer ≡ keying_call unicode16 entry kind position buffer
+  unfolding keying_call check_entry
+  call_refused kind position buffer why e =
+      sym (ap (λ (c : Checked). keying_of unicode16 kind (check_parts unicode16 c) position buffer) (verdict_bad (check_within unicode16 1024 entry) why (sym says ∙ e)))
 
   -- the entry is good
   module _ (e : answer ≡ Good) where
     pub text : List ℕ
-    text = (verdict-good (checkWithin unicode16 1024 entry) (sym says ∙ e)).0
+    text = (verdict_good (check_within unicode16 1024 entry) (sym says ∙ e)).0
 
-    pub check-is : checkWithin unicode16 1024 entry ≡ good text
+    pub check_is : check_within unicode16 1024 entry ≡ good text
     unfolding text
-    check-is = (verdict-good (checkWithin unicode16 1024 entry) (sym says ∙ e)).1
+    check_is = (verdict_good (check_within unicode16 1024 entry) (sym says ∙ e)).1
 
     passed : Passed unicode16 1024 entry text
-    passed = check-passed unicode16 1024 entry text check-is
+    passed = check_passed unicode16 1024 entry text check_is
 
-    pub passed-short : length entry ≤ 1024
-    passed-short = passed.short
+    pub passed_short : length entry ≤ 1024
+    passed_short = passed.short
 
-    text-is : pointsOf entry ≡ text
-    text-is = ap pointsOf (sym passed.written) ∙ points-back text passed.inside
+    text_is : points_of entry ≡ text
+    text_is = ap points_of (sym passed.written) ∙ points_back text passed.inside
 
-    pub entry-good : (parts : ℕ) → parts ≡ partCount entry → (parts ≡ 0 → ⊥) → Entry entry parts
-    entry-good parts c ne = record { checked = check-is ∙ ap good (sym text-is); count = c; some = omega arith }
+    pub entry_good : (parts : ℕ) → parts ≡ part_count entry → (parts ≡ 0 → ⊥) → Entry entry parts
+    entry_good parts c ne = record { checked = check_is ∙ ap good (sym text_is); count = c; some = omega arith }
 
     -- but its parts do not fit
-    pub fits-same : (leb (length (split text)) 16 && partsFit unicode16 (split text)) ≡ (leb (length (split entry)) 16 && allShort (split entry))
-    fits-same =
-        ap₂ (λ (n : ℕ) (b : Bool). leb n 16 && b) (sym (parts-count entry text passed)) (sym (ap allShort (parts-are entry text passed) ∙ short-bytes unicode16 (split text)))
+    pub fits_same : (leb (length (split text)) 16 && parts_fit unicode16 (split text)) ≡ (leb (length (split entry)) 16 && all_short (split entry))
+    fits_same =
+        ap₂ (λ (n : ℕ) (b : Bool). leb n 16 && b) (sym (parts_count entry text passed)) (sym (ap all_short (parts_are entry text passed) ∙ short_bytes unicode16 (split text)))
 
-    pub not-counted : 0 ≡ partCount entry → (leb (length (split entry)) 16 && allShort (split entry)) ≡ false
-    unfolding partCount
-    not-counted z =
-        let test = leb (length (split entry)) 16 && allShort (split entry) in
-        either test (λ b. absurd (omega (arith, z, ap (λ (x : Bool). pickNumber x (length (split entry)) 0) b, ap length (some-part entry).2))) (λ b. b)
+    pub not_counted : 0 ≡ part_count entry → (leb (length (split entry)) 16 && all_short (split entry)) ≡ false
+    unfolding part_count
+    not_counted z =
+        let test = leb (length (split entry)) 16 && all_short (split entry) in
+        either test (λ b. absurd (omega (arith, z, ap (λ (x : Bool). pick_number x (length (split entry)) 0) b, ap length (some_part entry).2))) (λ b. b)
 
-    pub call-parts : (kind : Kind) (position : ℕ) (buffer : List ℕ) → 0 ≡ partCount entry → refused Parts buffer ≡ keyingCall unicode16 entry kind position buffer
-    unfolding keyingCall checkEntry
-    call-parts kind position buffer z =
-        sym (ap (λ (c : Checked). keyingOf unicode16 kind (checkParts unicode16 c) position buffer) check-is
-        ∙ ap (λ (b : Bool). keyingOf unicode16 kind (pickChecked b (good text) (bad Parts)) position buffer) (fits-same ∙ not-counted z))
+    pub call_parts : (kind : Kind) (position : ℕ) (buffer : List ℕ) → 0 ≡ part_count entry → refused Parts buffer ≡ keying_call unicode16 entry kind position buffer
+    unfolding keying_call check_entry
+    call_parts kind position buffer z =
+        sym (ap (λ (c : Checked). keying_of unicode16 kind (check_parts unicode16 c) position buffer) check_is
+        ∙ ap (λ (b : Bool). keying_of unicode16 kind (pick_checked b (good text) (bad Parts)) position buffer) (fits_same ∙ not_counted z))

@@ -12,83 +12,83 @@ use borrow.Author.Tests.{leb-true}
 use lib.Dec.{leb, eqb}
 use lib.ListN.{length, take, drop, get_or, set, length-set, length-drop, length-map}
 use lib.Seq.{take-suc, take-take, take_all, get_or-set_same, get_or-set_other}
-use Rattle.ji.specs.Unicode.{unicode16, pickNumber}
-use Rattle.ji.specs.Reply.{good, checkText}
+use Rattle.ji.specs.Unicode.{unicode16, pick_number}
+use Rattle.ji.specs.Reply.{good, check_text}
 use Rattle.ji.specs.declared.lomaji.keys.Kind.{Kind}
-use Rattle.ji.proofs.Bools.{and-left, and-right}
-use Rattle.ji.proofs.unicode.Checked.{Passed, check-passed}
+use Rattle.ji.proofs.Bools.{and_left, and_right}
+use Rattle.ji.proofs.unicode.Checked.{Passed, check_passed}
 use Rattle.khiin_entries.specs.KeySequence.{split}
-use Rattle.khiin_entries.specs.Choices.{pointsOf, firstPart, allShort, partCount, Entry, choicesOf, choicesIn, choiceAt, choicesAt, laidOut, Within, RowOf, Laid}
+use Rattle.khiin_entries.specs.Choices.{points_of, first_part, all_short, part_count, Entry, choices_of, choices_in, choice_at, choices_at, laid_out, Within, RowOf, Laid}
 use Rattle.khiin_entries.specs.declared.key_sequence.Row.{Row}
-use Rattle.khiin_entries.proofs.key_sequence.Splitting.{Passing, passing-start, passing-inside, passing-text, passing-cut, passing-next, short-at, part-good}
-use Rattle.khiin_entries.proofs.key_sequence.Laying.{upTo-same}
-use Rattle.khiin_entries.proofs.key_sequence.Writing.{cut-front}
+use Rattle.khiin_entries.proofs.key_sequence.Splitting.{Passing, passing_start, passing_inside, passing_text, passing_cut, passing_next, short_at, part_good}
+use Rattle.khiin_entries.proofs.key_sequence.Laying.{up_to_same}
+use Rattle.khiin_entries.proofs.key_sequence.Writing.{cut_front}
 
 -- ── an entry that was found good
 module _ {entry : List ℕ} {parts : ℕ} (h : Entry entry parts) where
-  pub entry-passed : Passed unicode16 1024 entry (pointsOf entry)
-  entry-passed = check-passed unicode16 1024 entry (pointsOf entry) h.checked
+  pub entry_passed : Passed unicode16 1024 entry (points_of entry)
+  entry_passed = check_passed unicode16 1024 entry (points_of entry) h.checked
 
-  counted : (b : Bool) → (leb (length (split entry)) 16 && allShort (split entry)) ≡ b → parts ≡ pickNumber b (length (split entry)) 0 → (parts ≡ length (split entry)) × (parts ≤ 16) × (allShort (split entry) ≡ true)
+  counted : (b : Bool) → (leb (length (split entry)) 16 && all_short (split entry)) ≡ b → parts ≡ pick_number b (length (split entry)) 0 → (parts ≡ length (split entry)) × (parts ≤ 16) × (all_short (split entry) ≡ true)
   counted true e c =
-      let few = leb-true (length (split entry)) 16 (and-left (leb (length (split entry)) 16) (allShort (split entry)) e) in
-      (c, omega arith, and-right (leb (length (split entry)) 16) (allShort (split entry)) e)
+      let few = leb-true (length (split entry)) 16 (and_left (leb (length (split entry)) 16) (all_short (split entry)) e) in
+      (c, omega arith, and_right (leb (length (split entry)) 16) (all_short (split entry)) e)
   counted false e c = absurd (omega (arith, h.some))
 
-  pub entry-parts : (parts ≡ length (split entry)) × (parts ≤ 16) × (allShort (split entry) ≡ true)
-  unfolding partCount
-  entry-parts = counted (leb (length (split entry)) 16 && allShort (split entry)) refl h.count
+  pub entry_parts : (parts ≡ length (split entry)) × (parts ≤ 16) × (all_short (split entry) ≡ true)
+  unfolding part_count
+  entry_parts = counted (leb (length (split entry)) 16 && all_short (split entry)) refl h.count
 
   -- each part is the bytes of a good text
-  pub entry-part : (i : ℕ) → i < parts → checkText unicode16 (get_or (split entry) i []) ≡ good (pointsOf (get_or (split entry) i []))
-  entry-part i k =
-      let l : i < length (split entry) = omega (arith, entry-parts.0) in
-      part-good entry (pointsOf entry) entry-passed i l (short-at (split entry) entry-parts.2 i l)
+  pub entry_part : (i : ℕ) → i < parts → check_text unicode16 (get_or (split entry) i []) ≡ good (points_of (get_or (split entry) i []))
+  entry_part i k =
+      let l : i < length (split entry) = omega (arith, entry_parts.0) in
+      part_good entry (points_of entry) entry_passed i l (short_at (split entry) entry_parts.2 i l)
 
 -- ── what was laid out stays
-within-more : {o l : List ℕ} {r u v : ℕ} → Within o l r u → u ≤ v → Within o l r v
-within-more h k = record { few = h.few; inside = λ j b. omega (arith, h.inside j b) }
+within_more : {o l : List ℕ} {r u v : ℕ} → Within o l r u → u ≤ v → Within o l r v
+within_more h k = record { few = h.few; inside = λ j b. omega (arith, h.inside j b) }
 
-within-as : {o o' l l' : List ℕ} {r r' u : ℕ} → o ≡ o' → l ≡ l' → r ≡ r' → Within o' l' r' u → Within o l r u
-within-as p q s h = rw (p, q, s) h
+within_as : {o o' l l' : List ℕ} {r r' u : ℕ} → o ≡ o' → l ≡ l' → r ≡ r' → Within o' l' r' u → Within o l r u
+within_as p q s h = rw (p, q, s) h
 
 module _ (before after : List ℕ) (used : ℕ) (front : take used after ≡ take used before) where
-  same-choice : (a n : ℕ) → a + n ≤ used → take n (drop a after) ≡ take n (drop a before)
-  same-choice a n k =
-      cut-front n a after
+  same_choice : (a n : ℕ) → a + n ≤ used → take n (drop a after) ≡ take n (drop a before)
+  same_choice a n k =
+      cut_front n a after
       ∙ ap (drop a) (sym (take-take (a + n) used after k) ∙ ap (take (a + n)) front ∙ take-take (a + n) used before k)
-      ∙ sym (cut-front n a before)
+      ∙ sym (cut_front n a before)
 
-  same-choices : (o l : List ℕ) (r : ℕ) → Within o l r used → choicesAt after o l r ≡ choicesAt before o l r
-  same-choices o l r h =
-      upTo-same (choiceAt after o l) (choiceAt before o l) r (λ j k. same-choice (get_or o j 0) (get_or l j 0) (h.inside j k))
+  same_choices : (o l : List ℕ) (r : ℕ) → Within o l r used → choices_at after o l r ≡ choices_at before o l r
+  same_choices o l r h =
+      up_to_same (choice_at after o l) (choice_at before o l) r (λ j k. same_choice (get_or o j 0) (get_or l j 0) (h.inside j k))
 
 -- ── one part more
-map-getD : {A B : Type 0} (f : A → B) (l : List A) (i : ℕ) (d : A) (e : B) → i < length l → get_or (map f l) i e ≡ f (get_or l i d)
-map-getD f [] i d e h = absurd (omega arith)
-map-getD f (x ∷ l) zero d e h = refl
-map-getD f (x ∷ l) (suc i) d e h = map-getD f l i d e (omega arith)
+map_get_d : {A B : Type 0} (f : A → B) (l : List A) (i : ℕ) (d : A) (e : B) → i < length l → get_or (map f l) i e ≡ f (get_or l i d)
+map_get_d f [] i d e h = absurd (omega arith)
+map_get_d f (x ∷ l) zero d e h = refl
+map_get_d f (x ∷ l) (suc i) d e h = map_get_d f l i d e (omega arith)
 
 -- the first i parts are laid out in the first `used` bytes
 pub record Filling (entry : List ℕ) (kind : Kind) (forms : List ℕ) (offsets lengths : List (List ℕ)) (radices : List ℕ) (i at used : ℕ) : Type 0 where
   pub passing : Passing entry i at
   pub inside : at ≤ length entry + 1
-  pub offsets-size : length offsets ≡ 16
-  pub lengths-size : length lengths ≡ 16
-  pub radices-size : length radices ≡ 16
+  pub offsets_size : length offsets ≡ 16
+  pub lengths_size : length lengths ≡ 16
+  pub radices_size : length radices ≡ 16
   pub few : used ≤ 5 * at + 2 * i
   pub laid : Laid offsets lengths radices i used
-  pub texts : laidOut forms offsets lengths radices i ≡ take i (choicesIn unicode16 kind entry)
+  pub texts : laid_out forms offsets lengths radices i ≡ take i (choices_in unicode16 kind entry)
 
-pub filling-start : (entry : List ℕ) (kind : Kind) (forms : List ℕ) (offsets lengths : List (List ℕ)) (radices : List ℕ) → length offsets ≡ 16 → length lengths ≡ 16 → length radices ≡ 16 → Filling entry kind forms offsets lengths radices 0 0 0
-unfolding laidOut
-filling-start entry kind forms offsets lengths radices o l r =
+pub filling_start : (entry : List ℕ) (kind : Kind) (forms : List ℕ) (offsets lengths : List (List ℕ)) (radices : List ℕ) → length offsets ≡ 16 → length lengths ≡ 16 → length radices ≡ 16 → Filling entry kind forms offsets lengths radices 0 0 0
+unfolding laid_out
+filling_start entry kind forms offsets lengths radices o l r =
     record {
-      passing = passing-start entry;
+      passing = passing_start entry;
       inside = omega arith;
-      offsets-size = o;
-      lengths-size = l;
-      radices-size = r;
+      offsets_size = o;
+      lengths_size = l;
+      radices_size = r;
       few = omega arith;
       laid = λ i k. absurd (omega arith);
       texts = refl;
@@ -100,30 +100,30 @@ module _ {entry : List ℕ} {kind : Kind} {parts : ℕ} (e : Entry entry parts) 
   part = get_or (split entry) i []
 
   known : i < length (split entry)
-  known = omega (arith, (entry-parts e).0)
+  known = omega (arith, (entry_parts e).0)
 
   -- the part starts within the entry
-  pub filling-here : at ≤ length entry
-  filling-here = go (dec_le at (length entry))
+  pub filling_here : at ≤ length entry
+  filling_here = go (dec_le at (length entry))
     where
       go : Dec (at ≤ length entry) → at ≤ length entry
       go (yes k) = k
       go (no k) = absurd (omega (arith, known, length-drop i (split entry), ap length (h.passing.over (omega arith))))
 
-  module _ (end : ℕ) (ends : end ≡ at + length (firstPart (drop at entry))) where
+  module _ (end : ℕ) (ends : end ≡ at + length (first_part (drop at entry))) where
     -- and is what lies between the two places
-    pub filling-part : take (end - at) (drop at entry) ≡ part
-    filling-part = passing-cut h.passing filling-here end ends
+    pub filling_part : take (end - at) (drop at entry) ≡ part
+    filling_part = passing_cut h.passing filling_here end ends
 
-    part-ends : end ≡ at + length part
-    part-ends = ends ∙ ap (λ (l : List ℕ). at + length l) (sym (passing-text h.passing filling-here))
+    part_ends : end ≡ at + length part
+    part_ends = ends ∙ ap (λ (l : List ℕ). at + length l) (sym (passing_text h.passing filling_here))
 
-    pub filling-end : end ≤ length entry
-    filling-end = passing-inside h.passing filling-here end ends
+    pub filling_end : end ≤ length entry
+    filling_end = passing_inside h.passing filling_here end ends
 
     -- there is room for it
-    pub filling-room : used + (5 * length part + 2) ≤ 5 * length entry + 32
-    filling-room = omega (arith, h.few, part-ends, filling-end, (entry-parts e).1)
+    pub filling_room : used + (5 * length part + 2) ≤ 5 * length entry + 32
+    filling_room = omega (arith, h.few, part_ends, filling_end, (entry_parts e).1)
 
     module _ (forms' : List ℕ) (row : Row) (r : RowOf unicode16 (eqb parts 1) kind part used forms forms' row) where
       abbrev offsets' : List (List ℕ)
@@ -144,60 +144,60 @@ module _ {entry : List ℕ} {kind : Kind} {parts : ℕ} (e : Entry entry parts) 
       -- and it stands behind them
       last : (get_or offsets' i [] ≡ row.offsets) × (get_or lengths' i [] ≡ row.lengths) × (get_or radices' i 0 ≡ row.radix)
       last =
-          let few = (entry-parts e).1 in (
-            get_or-set_same offsets i row.offsets [] (omega (arith, h.offsets-size)),
-            get_or-set_same lengths i row.lengths [] (omega (arith, h.lengths-size)),
-            get_or-set_same radices i row.radix 0 (omega (arith, h.radices-size)),
+          let few = (entry_parts e).1 in (
+            get_or-set_same offsets i row.offsets [] (omega (arith, h.offsets_size)),
+            get_or-set_same lengths i row.lengths [] (omega (arith, h.lengths_size)),
+            get_or-set_same radices i row.radix 0 (omega (arith, h.radices_size)),
           )
 
       laid' : Laid offsets' lengths' radices' (i + 1) row.end
       laid' j k =
           let b : j ≤ i = omega arith in
-          ⊎_elim (λ q. subst (λ (n : ℕ). Within (get_or offsets' n []) (get_or lengths' n []) (get_or radices' n 0) row.end) (sym q) (within-as last.0 last.1 last.2 r.within))
-          (λ l. let p = earlier j l in within-as p.0 p.1 p.2 (within-more (h.laid j l) r.behind))
+          ⊎_elim (λ q. subst (λ (n : ℕ). Within (get_or offsets' n []) (get_or lengths' n []) (get_or radices' n 0) row.end) (sym q) (within_as last.0 last.1 last.2 r.within))
+          (λ l. let p = earlier j l in within_as p.0 p.1 p.2 (within_more (h.laid j l) r.behind))
           (eq-or-lt_of_le b)
 
       -- their choices
       abbrev rows : List ℕ → List (List ℕ) → List (List ℕ) → List ℕ → ℕ → List (List ℕ)
-      rows f o l q j = choicesAt f (get_or o j []) (get_or l j []) (get_or q j 0)
+      rows f o l q j = choices_at f (get_or o j []) (get_or l j []) (get_or q j 0)
 
-      rows-as : {o o' l l' : List ℕ} {q q' : ℕ} → o ≡ o' → l ≡ l' → q ≡ q' → choicesAt forms' o l q ≡ choicesAt forms' o' l' q'
-      rows-as p q s = rw (p, q, s)
+      rows_as : {o o' l l' : List ℕ} {q q' : ℕ} → o ≡ o' → l ≡ l' → q ≡ q' → choices_at forms' o l q ≡ choices_at forms' o' l' q'
+      rows_as p q s = rw (p, q, s)
 
-      same-rows : (j : ℕ) → j < i → rows forms' offsets' lengths' radices' j ≡ rows forms offsets lengths radices j
-      same-rows j k =
+      same_rows : (j : ℕ) → j < i → rows forms' offsets' lengths' radices' j ≡ rows forms offsets lengths radices j
+      same_rows j k =
           let p = earlier j k in
-          rows-as p.0 p.1 p.2 ∙ same-choices forms forms' used r.front (get_or offsets j []) (get_or lengths j []) (get_or radices j 0) (h.laid j k)
+          rows_as p.0 p.1 p.2 ∙ same_choices forms forms' used r.front (get_or offsets j []) (get_or lengths j []) (get_or radices j 0) (h.laid j k)
 
-      texts' : laidOut forms' offsets' lengths' radices' (suc i) ≡ take (suc i) (choicesIn unicode16 kind entry)
-      unfolding laidOut choicesIn
+      texts' : laid_out forms' offsets' lengths' radices' (suc i) ≡ take (suc i) (choices_in unicode16 kind entry)
+      unfolding laid_out choices_in
       texts' =
-          let f = choicesOf unicode16 (eqb (length (split entry)) 1) kind in
-          let n : eqb parts 1 ≡ eqb (length (split entry)) 1 = ap (λ (m : ℕ). eqb m 1) (entry-parts e).0 in
+          let f = choices_of unicode16 (eqb (length (split entry)) 1) kind in
+          let n : eqb parts 1 ≡ eqb (length (split entry)) 1 = ap (λ (m : ℕ). eqb m 1) (entry_parts e).0 in
           ap₂ (λ (x : List (List (List ℕ))) (y : List (List ℕ)). x ++ (y ∷ []))
-          (upTo-same (rows forms' offsets' lengths' radices') (rows forms offsets lengths radices) i same-rows ∙ h.texts)
-          (rows-as last.0 last.1 last.2 ∙ r.texts ∙ ap (λ (b : Bool). choicesOf unicode16 b kind part) n ∙ sym (map-getD f (split entry) i [] [] known))
+          (up_to_same (rows forms' offsets' lengths' radices') (rows forms offsets lengths radices) i same_rows ∙ h.texts)
+          (rows_as last.0 last.1 last.2 ∙ r.texts ∙ ap (λ (b : Bool). choices_of unicode16 b kind part) n ∙ sym (map_get_d f (split entry) i [] [] known))
           ∙ sym (take-suc (map f (split entry)) i [] (omega (arith, known, length-map (split entry) f)))
 
-      pub filling-next : Filling entry kind forms' offsets' lengths' radices' (i + 1) (end + 1) row.end
-      filling-next =
+      pub filling_next : Filling entry kind forms' offsets' lengths' radices' (i + 1) (end + 1) row.end
+      filling_next =
           record {
-            passing = passing-next h.passing filling-here end ends;
-            inside = omega (arith, filling-end);
-            offsets-size = length-set offsets i row.offsets ∙ h.offsets-size;
-            lengths-size = length-set lengths i row.lengths ∙ h.lengths-size;
-            radices-size = length-set radices i row.radix ∙ h.radices-size;
-            few = omega (arith, h.few, r.short, part-ends);
+            passing = passing_next h.passing filling_here end ends;
+            inside = omega (arith, filling_end);
+            offsets_size = length-set offsets i row.offsets ∙ h.offsets_size;
+            lengths_size = length-set lengths i row.lengths ∙ h.lengths_size;
+            radices_size = length-set radices i row.radix ∙ h.radices_size;
+            few = omega (arith, h.few, r.short, part_ends);
             laid = laid';
             texts = rw (add-one i) texts';
           }
 
 -- all parts are laid out
-pub filling-all : {entry : List ℕ} {kind : Kind} {parts : ℕ} {forms : List ℕ} {offsets lengths : List (List ℕ)} {radices : List ℕ} {i at used : ℕ} → Entry entry parts → Filling entry kind forms offsets lengths radices i at used → i ≡ parts → laidOut forms offsets lengths radices parts ≡ choicesIn unicode16 kind entry
-unfolding choicesIn
-filling-all {entry} {kind} {parts} {forms} {offsets} {lengths} {radices} {i} e h all =
-    let f = choicesOf unicode16 (eqb (length (split entry)) 1) kind in
-    rw (← all) (h.texts ∙ take_all i (map f (split entry)) (omega (arith, (entry-parts e).0, length-map (split entry) f)))
+pub filling_all : {entry : List ℕ} {kind : Kind} {parts : ℕ} {forms : List ℕ} {offsets lengths : List (List ℕ)} {radices : List ℕ} {i at used : ℕ} → Entry entry parts → Filling entry kind forms offsets lengths radices i at used → i ≡ parts → laid_out forms offsets lengths radices parts ≡ choices_in unicode16 kind entry
+unfolding choices_in
+filling_all {entry} {kind} {parts} {forms} {offsets} {lengths} {radices} {i} e h all =
+    let f = choices_of unicode16 (eqb (length (split entry)) 1) kind in
+    rw (← all) (h.texts ∙ take_all i (map f (split entry)) (omega (arith, (entry_parts e).0, length-map (split entry) f)))
 
-pub filling-laid : {entry : List ℕ} {kind : Kind} {parts n : ℕ} {forms : List ℕ} {offsets lengths : List (List ℕ)} {radices : List ℕ} {i at used : ℕ} → Filling entry kind forms offsets lengths radices i at used → i ≡ parts → used ≤ n → Laid offsets lengths radices parts n
-filling-laid h all k j b = within-more (h.laid j (omega arith)) k
+pub filling_laid : {entry : List ℕ} {kind : Kind} {parts n : ℕ} {forms : List ℕ} {offsets lengths : List (List ℕ)} {radices : List ℕ} {i at used : ℕ} → Filling entry kind forms offsets lengths radices i at used → i ≡ parts → used ≤ n → Laid offsets lengths radices parts n
+filling_laid h all k j b = within_more (h.laid j (omega arith)) k

@@ -10,7 +10,7 @@ use lib.ListN.{length, take, length-append}
 use lib.Seq.{take_at}
 use Rattle.ji.specs.Unicode.{unicode16, same}
 use Rattle.ji.specs.Utf8.{encode}
-use Rattle.ji.specs.Reply.{Reply, refusalNumber, refused, over, answered, pickReply, good, checkText, textCall, textReply}
+use Rattle.ji.specs.Reply.{Reply, refusal_number, refused, over, answered, pick_reply, good, check_text, text_call, text_reply}
 use Rattle.ji.specs.Lomaji.Keys.{keys}
 use Rattle.ji.specs.declared.reply.Refusal.{Refusal}
 use Rattle.ji.specs.declared.reply.Refusal.TheVariants.{Argument, TooLong, IllFormed, OutsideTable, Parts, Position, NoRoom}
@@ -21,144 +21,144 @@ use Rattle.ji.specs.declared.lomaji.keys.Form.{Form}
 use Rattle.ji.specs.declared.lomaji.keys.Form.TheVariants.{Plain, Oo}
 use Rattle.ji.specs.declared.lomaji.keys.Kind.{Kind}
 use Rattle.ji.specs.declared.lomaji.keys.Kind.TheVariants.{Detoned, Numeric, Telex}
-use Rattle.ji.proofs.Bools.{either, false-true}
-use Rattle.ji.proofs.Replies.{text-good}
-use Rattle.ji.proofs.lomaji.keys.Bytes.{addedKey, toned-bytes, keys-bytes}
-use Rattle.ji.proofs.unicode.Bytes.{same-equal, same-itself, same-bytes}
-use Rattle.ji.proofs.unicode.Checked.{check-passed}
-use Rattle.khiin_entries.specs.KeySequence.{pickTexts, holdsDot, alone, forms, choices}
-use Rattle.ji.specs.Lomaji.Dot.{dotIn}
-use Rattle.khiin_entries.specs.Choices.{pointsOf, formBytes, isToned, choicesOf}
-use Rattle.khiin_entries.proofs.key_sequence.Splitting.{dot-bytes}
+use Rattle.ji.proofs.Bools.{either, false_true}
+use Rattle.ji.proofs.Replies.{text_good}
+use Rattle.ji.proofs.lomaji.keys.Bytes.{added_key, toned_bytes, keys_bytes}
+use Rattle.ji.proofs.unicode.Bytes.{same_equal, same_itself, same_bytes}
+use Rattle.ji.proofs.unicode.Checked.{check_passed}
+use Rattle.khiin_entries.specs.KeySequence.{pick_texts, holds_dot, alone, forms, choices}
+use Rattle.ji.specs.Lomaji.Dot.{dot_in}
+use Rattle.khiin_entries.specs.Choices.{points_of, form_bytes, is_toned, choices_of}
+use Rattle.khiin_entries.proofs.key_sequence.Splitting.{dot_bytes}
 
 -- ── what the call gives
-refusal-some : (why : Refusal) → 0 < refusalNumber why
-refusal-some Argument = omega arith
-refusal-some TooLong = omega arith
-refusal-some IllFormed = omega arith
-refusal-some OutsideTable = omega arith
-refusal-some Parts = omega arith
-refusal-some Position = omega arith
-refusal-some NoRoom = omega arith
+refusal_some : (why : Refusal) → 0 < refusal_number why
+refusal_some Argument = omega arith
+refusal_some TooLong = omega arith
+refusal_some IllFormed = omega arith
+refusal_some OutsideTable = omega arith
+refusal_some Parts = omega arith
+refusal_some Position = omega arith
+refusal_some NoRoom = omega arith
 
-module _ (form : Form) (kind : Kind) (part buffer : List ℕ) (h : checkText unicode16 part ≡ good (pointsOf part)) (room : length (formBytes unicode16 form kind part) ≤ length buffer) where
-  call-is : textCall unicode16 (keys unicode16 form kind) part buffer ≡ answered 0 (formBytes unicode16 form kind part) buffer
-  unfolding formBytes
-  call-is =
-      let output = encode (keys unicode16 form kind (pointsOf part)) in
-      sym (text-good unicode16 (keys unicode16 form kind) part buffer (pointsOf part) h)
-      ∙ ap (λ (b : Bool). pickReply b (answered 0 output buffer) (refused NoRoom buffer)) (le-leb (length output) (length buffer) room)
+module _ (form : Form) (kind : Kind) (part buffer : List ℕ) (h : check_text unicode16 part ≡ good (points_of part)) (room : length (form_bytes unicode16 form kind part) ≤ length buffer) where
+  call_is : text_call unicode16 (keys unicode16 form kind) part buffer ≡ answered 0 (form_bytes unicode16 form kind part) buffer
+  unfolding form_bytes
+  call_is =
+      let output = encode (keys unicode16 form kind (points_of part)) in
+      sym (text_good unicode16 (keys unicode16 form kind) part buffer (points_of part) h)
+      ∙ ap (λ (b : Bool). pick_reply b (answered 0 output buffer) (refused NoRoom buffer)) (le-leb (length output) (length buffer) room)
 
-  module _ (answer : TextAnswer) (after : List ℕ) (says : textReply answer after ≡ textCall unicode16 (keys unicode16 form kind) part buffer) where
-    told : (x : TextAnswer) → answer ≡ x → textReply x after ≡ answered 0 (formBytes unicode16 form kind part) buffer
-    told x e = ap (λ (a : TextAnswer). textReply a after) (sym e) ∙ says ∙ call-is
+  module _ (answer : TextAnswer) (after : List ℕ) (says : text_reply answer after ≡ text_call unicode16 (keys unicode16 form kind) part buffer) where
+    told : (x : TextAnswer) → answer ≡ x → text_reply x after ≡ answered 0 (form_bytes unicode16 form kind part) buffer
+    told x e = ap (λ (a : TextAnswer). text_reply a after) (sym e) ∙ says ∙ call_is
 
-    pub call-length : (n : ByteLen) → answer ≡ Done n → n.0 ≡ length (formBytes unicode16 form kind part)
-    call-length n e = ap (λ (r : Reply). r.length) (told (Done n) e)
+    pub call_length : (n : ByteLen) → answer ≡ Done n → n.0 ≡ length (form_bytes unicode16 form kind part)
+    call_length n e = ap (λ (r : Reply). r.length) (told (Done n) e)
 
-    pub call-buffer : (n : ByteLen) → answer ≡ Done n → after ≡ over (formBytes unicode16 form kind part) buffer
-    call-buffer n e = ap (λ (r : Reply). r.buffer) (told (Done n) e)
+    pub call_buffer : (n : ByteLen) → answer ≡ Done n → after ≡ over (form_bytes unicode16 form kind part) buffer
+    call_buffer n e = ap (λ (r : Reply). r.buffer) (told (Done n) e)
 
-    pub call-answers : (why : Refusal) → answer ≡ Refused why → ⊥
-    call-answers why e = omega (arith, refusal-some why, ap (λ (r : Reply). r.code) (told (Refused why) e))
+    pub call_answers : (why : Refusal) → answer ≡ Refused why → ⊥
+    call_answers why e = omega (arith, refusal_some why, ap (λ (r : Reply). r.code) (told (Refused why) e))
 
 -- ── the forms of a part
-module _ (part : List ℕ) (h : checkText unicode16 part ≡ good (pointsOf part)) where
-  written : encode (pointsOf part) ≡ part
-  unfolding checkText
-  written = (check-passed unicode16 256 part (pointsOf part) h).written
+module _ (part : List ℕ) (h : check_text unicode16 part ≡ good (points_of part)) where
+  written : encode (points_of part) ≡ part
+  unfolding check_text
+  written = (check_passed unicode16 256 part (points_of part) h).written
 
   -- a form has at most five bytes for each two of the part, and one more
-  pub form-bytes : (form : Form) (kind : Kind) → 2 * length (formBytes unicode16 form kind part) ≤ 5 * length part + 2
-  unfolding formBytes
-  form-bytes form kind = omega (arith, keys-bytes form kind (pointsOf part), ap length written)
+  pub form_bytes_law : (form : Form) (kind : Kind) → 2 * length (form_bytes unicode16 form kind part) ≤ 5 * length part + 2
+  unfolding form_bytes
+  form_bytes_law form kind = omega (arith, keys_bytes form kind (points_of part), ap length written)
 
   -- a toned form is the detoned one and one byte more
-  pub form-toned : (form : Form) (kind : Kind) → isToned kind ≡ true → formBytes unicode16 form kind part ≡ formBytes unicode16 form Detoned part ++ (addedKey unicode16 kind (pointsOf part) ∷ [])
-  unfolding formBytes
-  form-toned form Detoned e = absurd (false-true e)
-  form-toned form Numeric e = toned-bytes unicode16 form Numeric (pointsOf part) refl
-  form-toned form Telex e = toned-bytes unicode16 form Telex (pointsOf part) refl
+  pub form_toned : (form : Form) (kind : Kind) → is_toned kind ≡ true → form_bytes unicode16 form kind part ≡ form_bytes unicode16 form Detoned part ++ (added_key unicode16 kind (points_of part) ∷ [])
+  unfolding form_bytes
+  form_toned form Detoned e = absurd (false_true e)
+  form_toned form Numeric e = toned_bytes unicode16 form Numeric (points_of part) refl
+  form_toned form Telex e = toned_bytes unicode16 form Telex (points_of part) refl
 
-  dot-is : holdsDot (pointsOf part) ≡ dotIn part
-  dot-is = sym (dot-bytes (pointsOf part)) ∙ ap dotIn written
+  dot_is : holds_dot (points_of part) ≡ dot_in part
+  dot_is = sym (dot_bytes (points_of part)) ∙ ap dot_in written
 
   -- two toned forms are the same where the detoned ones are
-  same-as : (a b x y : List ℕ) → (x ≡ y → a ≡ b) → (a ≡ b → x ≡ y) → same a b ≡ same x y
-  same-as a b x y from to =
+  same_as : (a b x y : List ℕ) → (x ≡ y → a ≡ b) → (a ≡ b → x ≡ y) → same a b ≡ same x y
+  same_as a b x y from to =
       either (same x y)
-      (λ e. ap (same a) (sym (from (same-equal x y (subst T (sym e) tt)))) ∙ same-itself a ∙ sym e)
-      (λ e. either (same a b) (λ f. absurd (false-true (sym e ∙ ap (same x) (sym (to (same-equal a b (subst T (sym f) tt)))) ∙ same-itself x))) (λ f. f ∙ sym e))
+      (λ e. ap (same a) (sym (from (same_equal x y (subst T (sym e) tt)))) ∙ same_itself a ∙ sym e)
+      (λ e. either (same a b) (λ f. absurd (false_true (sym e ∙ ap (same x) (sym (to (same_equal a b (subst T (sym f) tt)))) ∙ same_itself x))) (λ f. f ∙ sym e))
 
-  front-equal : (a b : List ℕ) (k : ℕ) → a ++ (k ∷ []) ≡ b ++ (k ∷ []) → a ≡ b
-  front-equal a b k e =
+  front_equal : (a b : List ℕ) (k : ℕ) → a ++ (k ∷ []) ≡ b ++ (k ∷ []) → a ≡ b
+  front_equal a b k e =
       let n : length a ≡ length b = omega (arith, ap length e, length-append a (k ∷ []), length-append b (k ∷ [])) in
       sym (take_at a (k ∷ []) (length a) refl) ∙ ap₂ take n e ∙ take_at b (k ∷ []) (length b) refl
 
-  same-toned : (kind : Kind) → isToned kind ≡ true → same (formBytes unicode16 Plain kind part) (formBytes unicode16 Oo kind part) ≡ same (formBytes unicode16 Plain Detoned part) (formBytes unicode16 Oo Detoned part)
-  same-toned kind e =
-      let k = addedKey unicode16 kind (pointsOf part) in
-      let p = form-toned Plain kind e in
-      let o = form-toned Oo kind e in
-      same-as _ _ _ _ (λ q. p ∙ ap (λ (l : List ℕ). l ++ (k ∷ [])) q ∙ sym o) (λ q. front-equal _ _ k (sym p ∙ q ∙ o))
+  same_toned : (kind : Kind) → is_toned kind ≡ true → same (form_bytes unicode16 Plain kind part) (form_bytes unicode16 Oo kind part) ≡ same (form_bytes unicode16 Plain Detoned part) (form_bytes unicode16 Oo Detoned part)
+  same_toned kind e =
+      let k = added_key unicode16 kind (points_of part) in
+      let p = form_toned Plain kind e in
+      let o = form_toned Oo kind e in
+      same_as _ _ _ _ (λ q. p ∙ ap (λ (l : List ℕ). l ++ (k ∷ [])) q ∙ sym o) (λ q. front_equal _ _ k (sym p ∙ q ∙ o))
 
-  same-kind : (kind : Kind) → same (formBytes unicode16 Plain kind part) (formBytes unicode16 Oo kind part) ≡ same (formBytes unicode16 Plain Detoned part) (formBytes unicode16 Oo Detoned part)
-  same-kind Detoned = refl
-  same-kind Numeric = same-toned Numeric refl
-  same-kind Telex = same-toned Telex refl
+  same_kind : (kind : Kind) → same (form_bytes unicode16 Plain kind part) (form_bytes unicode16 Oo kind part) ≡ same (form_bytes unicode16 Plain Detoned part) (form_bytes unicode16 Oo Detoned part)
+  same_kind Detoned = refl
+  same_kind Numeric = same_toned Numeric refl
+  same_kind Telex = same_toned Telex refl
 
   -- ── its choices
-  map-pick : (b : Bool) (x y : List (List ℕ)) → map encode (pickTexts b x y) ≡ pickTexts b (map encode x) (map encode y)
-  map-pick true x y = refl
-  map-pick false x y = refl
+  map_pick : (b : Bool) (x y : List (List ℕ)) → map encode (pick_texts b x y) ≡ pick_texts b (map encode x) (map encode y)
+  map_pick true x y = refl
+  map_pick false x y = refl
 
   abbrev form : Form → Kind → List ℕ
-  form f kind = formBytes unicode16 f kind part
+  form f kind = form_bytes unicode16 f kind part
 
   -- of the only part
-  single-are : (kind : Kind) → choicesOf unicode16 true kind part ≡ pickTexts (same (form Plain kind) (form Oo kind)) (form Plain kind ∷ []) (form Plain kind ∷ form Oo kind ∷ [])
-  unfolding choicesOf alone formBytes
-  single-are kind =
-      let p = keys unicode16 Plain kind (pointsOf part) in
-      let o = keys unicode16 Oo kind (pointsOf part) in
-      let d = same (keys unicode16 Plain Detoned (pointsOf part)) (keys unicode16 Oo Detoned (pointsOf part)) in
-      map-pick d (p ∷ []) (p ∷ o ∷ [])
-      ∙ ap (λ (b : Bool). pickTexts b (encode p ∷ []) (encode p ∷ encode o ∷ []))
-      (sym (same-bytes (keys unicode16 Plain Detoned (pointsOf part)) (keys unicode16 Oo Detoned (pointsOf part))) ∙ sym (same-kind kind))
+  single_are : (kind : Kind) → choices_of unicode16 true kind part ≡ pick_texts (same (form Plain kind) (form Oo kind)) (form Plain kind ∷ []) (form Plain kind ∷ form Oo kind ∷ [])
+  unfolding choices_of alone form_bytes
+  single_are kind =
+      let p = keys unicode16 Plain kind (points_of part) in
+      let o = keys unicode16 Oo kind (points_of part) in
+      let d = same (keys unicode16 Plain Detoned (points_of part)) (keys unicode16 Oo Detoned (points_of part)) in
+      map_pick d (p ∷ []) (p ∷ o ∷ [])
+      ∙ ap (λ (b : Bool). pick_texts b (encode p ∷ []) (encode p ∷ encode o ∷ []))
+      (sym (same_bytes (keys unicode16 Plain Detoned (points_of part)) (keys unicode16 Oo Detoned (points_of part))) ∙ sym (same_kind kind))
 
-  pub single-one : (kind : Kind) → same (form Plain kind) (form Oo kind) ≡ true → choicesOf unicode16 true kind part ≡ form Plain kind ∷ []
-  single-one kind e = single-are kind ∙ ap (λ (b : Bool). pickTexts b (form Plain kind ∷ []) (form Plain kind ∷ form Oo kind ∷ [])) e
+  pub single_one : (kind : Kind) → same (form Plain kind) (form Oo kind) ≡ true → choices_of unicode16 true kind part ≡ form Plain kind ∷ []
+  single_one kind e = single_are kind ∙ ap (λ (b : Bool). pick_texts b (form Plain kind ∷ []) (form Plain kind ∷ form Oo kind ∷ [])) e
 
-  pub single-two : (kind : Kind) → same (form Plain kind) (form Oo kind) ≡ false → choicesOf unicode16 true kind part ≡ form Plain kind ∷ form Oo kind ∷ []
-  single-two kind e = single-are kind ∙ ap (λ (b : Bool). pickTexts b (form Plain kind ∷ []) (form Plain kind ∷ form Oo kind ∷ [])) e
+  pub single_two : (kind : Kind) → same (form Plain kind) (form Oo kind) ≡ false → choices_of unicode16 true kind part ≡ form Plain kind ∷ form Oo kind ∷ []
+  single_two kind e = single_are kind ∙ ap (λ (b : Bool). pick_texts b (form Plain kind ∷ []) (form Plain kind ∷ form Oo kind ∷ [])) e
 
   -- of one of several
-  forms-are : (b : Bool) → dotIn part ≡ b → (kind : Kind) → map encode (forms unicode16 kind (pointsOf part)) ≡ pickTexts b (form Plain kind ∷ form Oo kind ∷ []) (form Plain kind ∷ [])
-  unfolding forms formBytes
-  forms-are b e kind =
-      let p = keys unicode16 Plain kind (pointsOf part) in
-      let o = keys unicode16 Oo kind (pointsOf part) in
-      ap (λ (x : Bool). map encode (pickTexts x (p ∷ o ∷ []) (p ∷ []))) (dot-is ∙ e) ∙ map-pick b (p ∷ o ∷ []) (p ∷ [])
+  forms_are : (b : Bool) → dot_in part ≡ b → (kind : Kind) → map encode (forms unicode16 kind (points_of part)) ≡ pick_texts b (form Plain kind ∷ form Oo kind ∷ []) (form Plain kind ∷ [])
+  unfolding forms form_bytes
+  forms_are b e kind =
+      let p = keys unicode16 Plain kind (points_of part) in
+      let o = keys unicode16 Oo kind (points_of part) in
+      ap (λ (x : Bool). map encode (pick_texts x (p ∷ o ∷ []) (p ∷ []))) (dot_is ∙ e) ∙ map_pick b (p ∷ o ∷ []) (p ∷ [])
 
-  map-append : (x y : List (List ℕ)) → map encode (x ++ y) ≡ map encode x ++ map encode y
-  map-append [] y = refl
-  map-append (a ∷ x) y = ap (λ (l : List (List ℕ)). encode a ∷ l) (map-append x y)
+  map_append : (x y : List (List ℕ)) → map encode (x ++ y) ≡ map encode x ++ map encode y
+  map_append [] y = refl
+  map_append (a ∷ x) y = ap (λ (l : List (List ℕ)). encode a ∷ l) (map_append x y)
 
-  pub several-detoned : (kind : Kind) → isToned kind ≡ false → (b : Bool) → dotIn part ≡ b → choicesOf unicode16 false kind part ≡ pickTexts b (form Plain kind ∷ form Oo kind ∷ []) (form Plain kind ∷ [])
-  unfolding choicesOf
-  several-detoned Detoned t b e = forms-are b e Detoned
-  several-detoned Numeric t b e = absurd (false-true (sym t))
-  several-detoned Telex t b e = absurd (false-true (sym t))
+  pub several_detoned : (kind : Kind) → is_toned kind ≡ false → (b : Bool) → dot_in part ≡ b → choices_of unicode16 false kind part ≡ pick_texts b (form Plain kind ∷ form Oo kind ∷ []) (form Plain kind ∷ [])
+  unfolding choices_of
+  several_detoned Detoned t b e = forms_are b e Detoned
+  several_detoned Numeric t b e = absurd (false_true (sym t))
+  several_detoned Telex t b e = absurd (false_true (sym t))
 
-  pub several-toned : (kind : Kind) → isToned kind ≡ true → (b : Bool) → dotIn part ≡ b → choicesOf unicode16 false kind part ≡ pickTexts b (form Plain kind ∷ form Oo kind ∷ form Plain Detoned ∷ form Oo Detoned ∷ []) (form Plain kind ∷ form Plain Detoned ∷ [])
-  unfolding choicesOf
-  several-toned kind t b e = both kind t ∙ ap₂ (λ (x y : List (List ℕ)). x ++ y) (forms-are b e kind) (forms-are b e Detoned) ∙ joined b
+  pub several_toned : (kind : Kind) → is_toned kind ≡ true → (b : Bool) → dot_in part ≡ b → choices_of unicode16 false kind part ≡ pick_texts b (form Plain kind ∷ form Oo kind ∷ form Plain Detoned ∷ form Oo Detoned ∷ []) (form Plain kind ∷ form Plain Detoned ∷ [])
+  unfolding choices_of
+  several_toned kind t b e = both kind t ∙ ap₂ (λ (x y : List (List ℕ)). x ++ y) (forms_are b e kind) (forms_are b e Detoned) ∙ joined b
     where
-      both : (kind : Kind) → isToned kind ≡ true → map encode (choices unicode16 kind (pointsOf part)) ≡ map encode (forms unicode16 kind (pointsOf part)) ++ map encode (forms unicode16 Detoned (pointsOf part))
-      both Detoned t = absurd (false-true t)
-      both Numeric t = map-append (forms unicode16 Numeric (pointsOf part)) (forms unicode16 Detoned (pointsOf part))
-      both Telex t = map-append (forms unicode16 Telex (pointsOf part)) (forms unicode16 Detoned (pointsOf part))
+      both : (kind : Kind) → is_toned kind ≡ true → map encode (choices unicode16 kind (points_of part)) ≡ map encode (forms unicode16 kind (points_of part)) ++ map encode (forms unicode16 Detoned (points_of part))
+      both Detoned t = absurd (false_true t)
+      both Numeric t = map_append (forms unicode16 Numeric (points_of part)) (forms unicode16 Detoned (points_of part))
+      both Telex t = map_append (forms unicode16 Telex (points_of part)) (forms unicode16 Detoned (points_of part))
 
-      joined : (b : Bool) → pickTexts b (form Plain kind ∷ form Oo kind ∷ []) (form Plain kind ∷ []) ++ pickTexts b (form Plain Detoned ∷ form Oo Detoned ∷ []) (form Plain Detoned ∷ []) ≡ pickTexts b (form Plain kind ∷ form Oo kind ∷ form Plain Detoned ∷ form Oo Detoned ∷ []) (form Plain kind ∷ form Plain Detoned ∷ [])
+      joined : (b : Bool) → pick_texts b (form Plain kind ∷ form Oo kind ∷ []) (form Plain kind ∷ []) ++ pick_texts b (form Plain Detoned ∷ form Oo Detoned ∷ []) (form Plain Detoned ∷ []) ≡ pick_texts b (form Plain kind ∷ form Oo kind ∷ form Plain Detoned ∷ form Oo Detoned ∷ []) (form Plain kind ∷ form Plain Detoned ∷ [])
       joined true = refl
       joined false = refl

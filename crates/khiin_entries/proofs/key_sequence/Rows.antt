@@ -8,31 +8,31 @@ use native.Mathlib.Omega.{arith}
 use lib.ListN.{length, take, drop, get_or, length-append}
 use lib.Seq.{paste, take-take}
 use Rattle.ji.specs.Unicode.{unicode16}
-use Rattle.ji.specs.Reply.{good, checkText}
+use Rattle.ji.specs.Reply.{good, check_text}
 use Rattle.ji.specs.declared.lomaji.keys.Form.TheVariants.{Plain, Oo}
 use Rattle.ji.specs.declared.lomaji.keys.Kind.{Kind}
-use Rattle.khiin_entries.specs.Choices.{pointsOf, formBytes, choicesOf, rowOne, rowTwo, rowOneToned, rowTwoToned, RowOf, Within}
-use Rattle.khiin_entries.proofs.key_sequence.Writing.{Stands, pasted-length, put-stands, put-front, put-keeps, stands-front}
-use Rattle.khiin_entries.proofs.key_sequence.Forms.{form-bytes}
+use Rattle.khiin_entries.specs.Choices.{points_of, form_bytes, choices_of, row_one, row_two, row_one_toned, row_two_toned, RowOf, Within}
+use Rattle.khiin_entries.proofs.key_sequence.Writing.{Stands, pasted_length, put_stands, put_front, put_keeps, stands_front}
+use Rattle.khiin_entries.proofs.key_sequence.Forms.{form_bytes_law}
 
 pub cut : {buffer : List ℕ} {at : ℕ} {s : List ℕ} → Stands buffer at s → (n : ℕ) → n ≡ length s → take n (drop at buffer) ≡ s
 cut {buffer} {at} {s} h n e = ap (λ (k : ℕ). take k (drop at buffer)) e ∙ h.text
 
 -- ── the four rows
 module _ (single : Bool) (kind : Kind) (part before after : List ℕ) (at : ℕ) (front : take at after ≡ take at before) where
-  module _ (p : List ℕ) (first : Stands after at p) (mid : ℕ) (is-mid : mid ≡ at + length p) where
-    within-one : Within (at ∷ 0 ∷ 0 ∷ 0 ∷ []) ((mid - at) ∷ 0 ∷ 0 ∷ 0 ∷ []) 1 mid
-    within-one = record { few = inl refl; inside = below }
+  module _ (p : List ℕ) (first : Stands after at p) (mid : ℕ) (is_mid : mid ≡ at + length p) where
+    within_one : Within (at ∷ 0 ∷ 0 ∷ 0 ∷ []) ((mid - at) ∷ 0 ∷ 0 ∷ 0 ∷ []) 1 mid
+    within_one = record { few = inl refl; inside = below }
       where
         below : (j : ℕ) → j < 1 → get_or (at ∷ 0 ∷ 0 ∷ 0 ∷ []) j 0 + get_or ((mid - at) ∷ 0 ∷ 0 ∷ 0 ∷ []) j 0 ≤ mid
         below zero h = omega arith
         below (suc j) h = absurd (omega arith)
 
-    pub one-row : choicesOf unicode16 single kind part ≡ p ∷ [] → mid ≤ at + (5 * length part + 2) → RowOf unicode16 single kind part at before after (rowOne at mid)
-    one-row are short =
+    pub one_row : choices_of unicode16 single kind part ≡ p ∷ [] → mid ≤ at + (5 * length part + 2) → RowOf unicode16 single kind part at before after (row_one at mid)
+    one_row are short =
         record {
           texts = ap (λ (l : List ℕ). l ∷ []) (cut first (mid - at) (omega arith)) ∙ sym are;
-          within = within-one;
+          within = within_one;
           front = front;
           behind = omega arith;
           short = short;
@@ -40,16 +40,16 @@ module _ (single : Bool) (kind : Kind) (part before after : List ℕ) (at : ℕ)
 
     -- p is q and one byte more
     module _ (q : List ℕ) (k : ℕ) (toned : p ≡ q ++ (k ∷ [])) where
-      q-length : length p ≡ length q + 1
-      q-length = ap length toned ∙ length-append q (k ∷ [])
+      q_length : length p ≡ length q + 1
+      q_length = ap length toned ∙ length-append q (k ∷ [])
 
-      q-stands : Stands after at q
-      q-stands = stands-front q (k ∷ []) (rw toned at first)
+      q_stands : Stands after at q
+      q_stands = stands_front q (k ∷ []) (rw toned at first)
 
-      pub one-toned-row : choicesOf unicode16 single kind part ≡ p ∷ q ∷ [] → mid ≤ at + (5 * length part + 2) → RowOf unicode16 single kind part at before after (rowOneToned at mid)
-      one-toned-row are short =
+      pub one_toned_row : choices_of unicode16 single kind part ≡ p ∷ q ∷ [] → mid ≤ at + (5 * length part + 2) → RowOf unicode16 single kind part at before after (row_one_toned at mid)
+      one_toned_row are short =
           record {
-            texts = ap₂ (λ (x y : List ℕ). x ∷ y ∷ []) (cut first (mid - at) (omega arith)) (cut q-stands (mid - at - 1) (omega (arith, q-length))) ∙ sym are;
+            texts = ap₂ (λ (x y : List ℕ). x ∷ y ∷ []) (cut first (mid - at) (omega arith)) (cut q_stands (mid - at - 1) (omega (arith, q_length))) ∙ sym are;
             within = record { few = inr (inl refl); inside = below };
             front = front;
             behind = omega arith;
@@ -62,9 +62,9 @@ module _ (single : Bool) (kind : Kind) (part before after : List ℕ) (at : ℕ)
           below (suc (suc j)) h = absurd (omega arith)
 
     -- and a second form behind it
-    module _ (o : List ℕ) (second : Stands after mid o) (end : ℕ) (is-end : end ≡ mid + length o) where
-      pub two-row : choicesOf unicode16 single kind part ≡ p ∷ o ∷ [] → end ≤ at + (5 * length part + 2) → RowOf unicode16 single kind part at before after (rowTwo at mid end)
-      two-row are short =
+    module _ (o : List ℕ) (second : Stands after mid o) (end : ℕ) (is_end : end ≡ mid + length o) where
+      pub two_row : choices_of unicode16 single kind part ≡ p ∷ o ∷ [] → end ≤ at + (5 * length part + 2) → RowOf unicode16 single kind part at before after (row_two at mid end)
+      two_row are short =
           record {
             texts = ap₂ (λ (x y : List ℕ). x ∷ y ∷ []) (cut first (mid - at) (omega arith)) (cut second (end - mid) (omega arith)) ∙ sym are;
             within = record { few = inr (inl refl); inside = below };
@@ -78,14 +78,14 @@ module _ (single : Bool) (kind : Kind) (part before after : List ℕ) (at : ℕ)
           below (suc zero) h = omega arith
           below (suc (suc j)) h = absurd (omega arith)
 
-      pub two-toned-row : (q u : List ℕ) (k : ℕ) → p ≡ q ++ (k ∷ []) → o ≡ u ++ (k ∷ []) → choicesOf unicode16 single kind part ≡ p ∷ o ∷ q ∷ u ∷ [] → end ≤ at + (5 * length part + 2) → RowOf unicode16 single kind part at before after (rowTwoToned at mid end)
-      two-toned-row q u k p-toned o-toned are short =
+      pub two_toned_row : (q u : List ℕ) (k : ℕ) → p ≡ q ++ (k ∷ []) → o ≡ u ++ (k ∷ []) → choices_of unicode16 single kind part ≡ p ∷ o ∷ q ∷ u ∷ [] → end ≤ at + (5 * length part + 2) → RowOf unicode16 single kind part at before after (row_two_toned at mid end)
+      two_toned_row q u k p-toned o-toned are short =
           let n : length p ≡ length q + 1 = ap length p-toned ∙ length-append q (k ∷ []) in
           let m : length o ≡ length u + 1 = ap length o-toned ∙ length-append u (k ∷ []) in
-          let q-stands = stands-front q (k ∷ []) (rw p-toned at first) in
-          let u-stands = stands-front u (k ∷ []) (rw o-toned at second) in
+          let q_stands = stands_front q (k ∷ []) (rw p-toned at first) in
+          let u-stands = stands_front u (k ∷ []) (rw o-toned at second) in
           let whole : ◌≡◌ {A = List (List ℕ)} (take (mid - at) (drop at after) ∷ take (end - mid) (drop mid after) ∷ []) (p ∷ o ∷ []) = ap₂ (λ (x y : List ℕ). x ∷ y ∷ []) (cut first (mid - at) (omega arith)) (cut second (end - mid) (omega arith)) in
-          let bare : ◌≡◌ {A = List (List ℕ)} (take (mid - at - 1) (drop at after) ∷ take (end - mid - 1) (drop mid after) ∷ []) (q ∷ u ∷ []) = ap₂ (λ (x y : List ℕ). x ∷ y ∷ []) (cut q-stands (mid - at - 1) (omega arith)) (cut u-stands (end - mid - 1) (omega arith)) in
+          let bare : ◌≡◌ {A = List (List ℕ)} (take (mid - at - 1) (drop at after) ∷ take (end - mid - 1) (drop mid after) ∷ []) (q ∷ u ∷ []) = ap₂ (λ (x y : List ℕ). x ∷ y ∷ []) (cut q_stands (mid - at - 1) (omega arith)) (cut u-stands (end - mid - 1) (omega arith)) in
           record {
             texts = ap₂ (λ (x y : List (List ℕ)). x ++ y) whole bare ∙ sym are;
             within = record { few = inr (inr refl); inside = below };
@@ -103,17 +103,17 @@ module _ (single : Bool) (kind : Kind) (part before after : List ℕ) (at : ℕ)
 
 -- ── what the calls that put forms into the buffer leave there. It has room for five bytes for each byte of the part, and two more
 abbrev pub Room : List ℕ → List ℕ → ℕ → Type 0
-Room part before at = (checkText unicode16 part ≡ good (pointsOf part)) × (at + (5 * length part + 2) ≤ length before) × (length before ≤ 65535)
+Room part before at = (check_text unicode16 part ≡ good (points_of part)) × (at + (5 * length part + 2) ≤ length before) × (length before ≤ 65535)
 
 module _ (kind : Kind) (part before : List ℕ) (at : ℕ) where
   abbrev p : List ℕ
-  p = formBytes unicode16 Plain kind part
+  p = form_bytes unicode16 Plain kind part
 
   abbrev o : List ℕ
-  o = formBytes unicode16 Oo kind part
+  o = form_bytes unicode16 Oo kind part
 
-  pub first-room : Room part before at → at + length p ≤ length before
-  first-room h = omega (arith, form-bytes part h.0 Plain kind, h.1)
+  pub first_room : Room part before at → at + length p ≤ length before
+  first_room h = omega (arith, form_bytes_law part h.0 Plain kind, h.1)
 
   -- the plain form is put
   pub record OnePut (mid : ℕ) (after : List ℕ) : Type 0 where
@@ -122,20 +122,20 @@ module _ (kind : Kind) (part before : List ℕ) (at : ℕ) where
     pub put : after ≡ paste before at p (length p)
 
   module _ {mid : ℕ} {after : List ℕ} (h : OnePut mid after) where
-    pub one-length : length after ≡ length before
-    one-length = ap length h.put ∙ pasted-length before at p (first-room h.room)
+    pub one_length : length after ≡ length before
+    one_length = ap length h.put ∙ pasted_length before at p (first_room h.room)
 
-    pub one-stands : Stands after at p
-    one-stands = rw h.put (put-stands before at p (first-room h.room))
+    pub one_stands : Stands after at p
+    one_stands = rw h.put (put_stands before at p (first_room h.room))
 
-    pub one-front : take at after ≡ take at before
-    one-front = ap (take at) h.put ∙ put-front before at p (first-room h.room)
+    pub one_front : take at after ≡ take at before
+    one_front = ap (take at) h.put ∙ put_front before at p (first_room h.room)
 
     -- it has at most half of the room, so another one goes in
-    pub one-short : (mid ≤ at + (5 * length part + 2)) × (mid + length o ≤ length after) × (mid ≤ 65535)
-    one-short =
-        let bytes = form-bytes part h.room.0 Plain kind in
-        (omega (arith, h.ends), omega (arith, h.ends, h.room.1, form-bytes part h.room.0 Oo kind, one-length), omega (arith, h.ends, h.room.1, h.room.2))
+    pub one_short : (mid ≤ at + (5 * length part + 2)) × (mid + length o ≤ length after) × (mid ≤ 65535)
+    one_short =
+        let bytes = form_bytes_law part h.room.0 Plain kind in
+        (omega (arith, h.ends), omega (arith, h.ends, h.room.1, form_bytes_law part h.room.0 Oo kind, one_length), omega (arith, h.ends, h.room.1, h.room.2))
 
   -- the other form is put behind it
   pub record TwoPut (mid end : ℕ) (after : List ℕ) : Type 0 where
@@ -145,28 +145,28 @@ module _ (kind : Kind) (part before : List ℕ) (at : ℕ) where
     pub put : after ≡ paste middle mid o (length o)
 
   module _ {mid end : ℕ} {after : List ℕ} (h : TwoPut mid end after) where
-    second-room : mid + length o ≤ length h.middle
-    second-room = (one-short h.one).1
+    second_room : mid + length o ≤ length h.middle
+    second_room = (one_short h.one).1
 
-    pub two-length : length after ≡ length before
-    two-length = ap length h.put ∙ pasted-length h.middle mid o second-room ∙ one-length h.one
+    pub two_length : length after ≡ length before
+    two_length = ap length h.put ∙ pasted_length h.middle mid o second_room ∙ one_length h.one
 
-    pub two-first : Stands after at p
-    two-first = rw h.put (put-keeps h.middle mid o second-room at p (one-stands h.one) (omega (arith, h.one.ends)))
+    pub two_first : Stands after at p
+    two_first = rw h.put (put_keeps h.middle mid o second_room at p (one_stands h.one) (omega (arith, h.one.ends)))
 
-    pub two-second : Stands after mid o
-    two-second = rw h.put (put-stands h.middle mid o second-room)
+    pub two_second : Stands after mid o
+    two_second = rw h.put (put_stands h.middle mid o second_room)
 
-    pub two-front : take at after ≡ take at before
-    two-front =
+    pub two_front : take at after ≡ take at before
+    two_front =
         let l : at ≤ mid = omega (arith, h.one.ends) in
-        sym (take-take at mid after l) ∙ ap (take at) (ap (take mid) h.put ∙ put-front h.middle mid o second-room) ∙ take-take at mid h.middle l ∙ one-front h.one
+        sym (take-take at mid after l) ∙ ap (take at) (ap (take mid) h.put ∙ put_front h.middle mid o second_room) ∙ take-take at mid h.middle l ∙ one_front h.one
 
-    pub two-short : (mid ≤ end) × (end ≤ at + (5 * length part + 2)) × (end ≤ length before) × (end ≤ 65535)
-    two-short =
-        let bytes = form-bytes part h.one.room.0 Plain kind in (
+    pub two_short : (mid ≤ end) × (end ≤ at + (5 * length part + 2)) × (end ≤ length before) × (end ≤ 65535)
+    two_short =
+        let bytes = form_bytes_law part h.one.room.0 Plain kind in (
           omega (arith, h.ends),
-          omega (arith, h.ends, h.one.ends, form-bytes part h.one.room.0 Oo kind),
-          omega (arith, h.ends, second-room, one-length h.one),
-          omega (arith, h.ends, second-room, one-length h.one, h.one.room.2),
+          omega (arith, h.ends, h.one.ends, form_bytes_law part h.one.room.0 Oo kind),
+          omega (arith, h.ends, second_room, one_length h.one),
+          omega (arith, h.ends, second_room, one_length h.one, h.one.room.2),
         )

@@ -3,7 +3,7 @@ use Rattle.std.proofs.KnownBytes.{Appends-trans}
 use Rattle.std.specs.Io.KnownBytes.{Appends}
 use Rattle.ji.specs.Unicode.{unicode16}
 use Rattle.khiin_entries.specs.Listing.{shown, together}
-use Rattle.lister.proofs.Laws.{next_sized, printed-further, printed-all}
+use Rattle.lister.proofs.Laws.{next_sized, printed_further, printed_all}
 use Rattle.lister.proofs.print_listing.Goals as goal
 
 pub loop-from-init : goal.loop-from-init
@@ -14,7 +14,7 @@ loop-from-init g c =
       next = c.in_ok-next.ensures.next;
       written =
           subst (λ (t : List ℕ). Appends (g.W.Write.contents c.args.writer.now) (g.W.Write.contents c.print_block.new.writer) t)
-          (printed-further c.args.entry.now 0 65536 c.in_ok-next.next c.in_ok-next.ensures.next) c.in_ok-next.ensures.written;
+          (printed_further c.args.entry.now 0 65536 c.in_ok-next.next c.in_ok-next.ensures.next) c.in_ok-next.ensures.written;
     }
 
 pub loop-from-preserved : goal.loop-from-preserved
@@ -30,7 +30,7 @@ loop-from-preserved g c =
       next = next;
       written =
           subst (λ (t : List ℕ). Appends (g.W.Write.contents c.args.writer.now) (g.W.Write.contents c.print_block-in-loop-from.new.writer) t)
-          (printed-further entry from 65536 c.in_ok-next-2.next next)
+          (printed_further entry from 65536 c.in_ok-next-2.next next)
           (Appends-trans _ _ _ _ (together (block 65536)) was.written
           (subst (λ (n : ℕ). Appends (g.W.Write.contents c.loop-from.writer) (g.W.Write.contents c.print_block-in-loop-from.new.writer) (together (block n))) was.size c.in_ok-next-2.ensures.written));
     }
@@ -39,4 +39,4 @@ pub returns : goal.returns
 returns g c =
     let was = c.loop-from.invariant in
     subst (λ (t : List ℕ). Appends (g.W.Write.contents c.args.writer.now) (g.W.Write.contents c.loop-from.writer) t)
-    (printed-all c.args.entry.now c.loop-from.from c.loop-from.next was.next c.loop-from-test.false) was.written
+    (printed_all c.args.entry.now c.loop-from.from c.loop-from.next was.next c.loop-from-test.false) was.written

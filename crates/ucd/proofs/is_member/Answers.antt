@@ -3,7 +3,7 @@ use mathlib.Core.Path.{◌∙◌}
 use native.Mathlib.Omega.{arith}
 use Rattle.ucd.specs.Table.{member}
 use Rattle.ucd.specs.Unicode16.{unicode16, ranges16}
-use Rattle.ucd.proofs.Ranges.{narrowed, whole, upTo, alone}
+use Rattle.ucd.proofs.Ranges.{narrowed, whole, up_to, alone}
 use Rattle.ucd.proofs.is_member.Goals as goal
 
 pub returns-then-c-le127 : goal.returns-then-c-le127
@@ -64,4 +64,4 @@ pub returns : goal.returns
 unfolding member unicode16 ranges16
 returns c =
     let x = c.args.c in
-    upTo 0x226E 0x226F x (omega arith) ∙ narrowed 0x226E 0x100000000 x (omega arith) (omega arith) ranges16
+    up_to 0x226E 0x226F x (omega arith) ∙ narrowed 0x226E 0x100000000 x (omega arith) (omega arith) ranges16

@@ -8,215 +8,215 @@ use native.Mathlib.Omega.{arith}
 use lib.Dec.{T, leb, ltb, leb→le, ltb→lt}
 use lib.ListN.{length, drop, set}
 use lib.Seq.{paste}
-use Rattle.ucd.specs.Table.{Table, same, member, decomposition, combiningClass, classIn}
+use Rattle.ucd.specs.Table.{Table, same, member, decomposition, combining_class, class_in}
 use Rattle.ucd.specs.Full.{full}
 use Rattle.ucd.specs.Unicode16.{unicode16, classes16}
-use Rattle.ucd.proofs.Tests.{passes-true, both-left, both-right, same-equal}
-use Rattle.ucd.proofs.Lists.{eachClass, class-passes}
-use Rattle.ucd.proofs.Unicode16.{low-atom, low-starter, full-itself, full-two}
+use Rattle.ucd.proofs.Tests.{passes_true, both_left, both_right, same_equal}
+use Rattle.ucd.proofs.Lists.{each_class, class_passes}
+use Rattle.ucd.proofs.Unicode16.{low_atom, low_starter, full_itself, full_two}
 use Rattle.ji.specs.Written.{Written}
-use Rattle.ji.specs.Utf8.{widthAt, pointAt, ReadOf, bytesOf, encode}
-use Rattle.ji.specs.Tone.{isTone}
+use Rattle.ji.specs.Utf8.{width_at, point_at, ReadOf, bytes_of, encode}
+use Rattle.ji.specs.Tone.{is_tone}
 use Rattle.ji.specs.Nfd.{Reorderable, NoPair, Ordered, nfd}
-use Rattle.ji.specs.Lomaji.Strip.{markTone, isToneMark, withoutMarks, droppedMarks, lastTone}
+use Rattle.ji.specs.Lomaji.Strip.{mark_tone, is_tone_mark, without_marks, dropped_marks, last_tone}
 use Rattle.ji.specs.Lomaji.Quick.{IsLetter, Stripping, Further, Walked}
 use Rattle.ji.specs.declared.tone.Tone.{Tone}
 use Rattle.ji.specs.declared.tone.Tone.TheVariants.{None}
 use Rattle.ji.specs.declared.lomaji.quick.Progress.{Progress}
 use Rattle.ji.specs.declared.lomaji.quick.Outcome.TheVariants.{Whole}
-use Rattle.ji.proofs.Bools.{either, false-true}
-use Rattle.ji.proofs.Writing.{written-none, written-one, written-run, written-length}
-use Rattle.ji.proofs.Decomposition.{full-nil, full-append}
-use Rattle.ji.proofs.unicode.Reader.{width-within, Taken, taken-start, taken-more, taken-end}
-use Rattle.ji.proofs.utf8.Encoding.{bytes-one, encode-more}
-use Rattle.ji.proofs.lomaji.strip.Laws.{mark-is, no-mark}
-use Rattle.ji.proofs.lomaji.strip.Commuting.{without-mark, without-other, dropped-mark, dropped-other, nfd-without, nfd-dropped}
+use Rattle.ji.proofs.Bools.{either, false_true}
+use Rattle.ji.proofs.Writing.{written_none, written_one, written_run, written_length}
+use Rattle.ji.proofs.Decomposition.{full_nil, full_append}
+use Rattle.ji.proofs.unicode.Reader.{width_within, Taken, taken_start, taken_more, taken_end}
+use Rattle.ji.proofs.utf8.Encoding.{bytes_one, encode_more}
+use Rattle.ji.proofs.lomaji.strip.Laws.{mark_is, no_mark}
+use Rattle.ji.proofs.lomaji.strip.Commuting.{without_mark, without_other, dropped_mark, dropped_other, nfd_without, nfd_dropped}
 
 -- ── order, with one code point more at the end
 module _ (t : Table) where
-  no-pair-behind : (b : ℕ) (s : List ℕ) (a c : ℕ) → NoPair t b (s ++ (a ∷ [])) → NoPair t b ((s ++ (a ∷ [])) ++ (c ∷ []))
-  no-pair-behind b [] a c f = f
-  no-pair-behind b (x ∷ s) a c f = f
+  no_pair_behind : (b : ℕ) (s : List ℕ) (a c : ℕ) → NoPair t b (s ++ (a ∷ [])) → NoPair t b ((s ++ (a ∷ [])) ++ (c ∷ []))
+  no_pair_behind b [] a c f = f
+  no_pair_behind b (x ∷ s) a c f = f
 
-  ordered-behind : (s : List ℕ) (a c : ℕ) → Ordered t (s ++ (a ∷ [])) → (Reorderable t a c → ⊥) → Ordered t ((s ++ (a ∷ [])) ++ (c ∷ []))
-  ordered-behind [] a c h f = (f, (tt, tt))
-  ordered-behind (b ∷ s) a c h f = (no-pair-behind b s a c h.0, ordered-behind s a c h.1 f)
+  ordered_behind : (s : List ℕ) (a c : ℕ) → Ordered t (s ++ (a ∷ [])) → (Reorderable t a c → ⊥) → Ordered t ((s ++ (a ∷ [])) ++ (c ∷ []))
+  ordered_behind [] a c h f = (f, (tt, tt))
+  ordered_behind (b ∷ s) a c h f = (no_pair_behind b s a c h.0, ordered_behind s a c h.1 f)
 
-  no-pair-before : (b : ℕ) (s : List ℕ) (c : ℕ) → NoPair t b (s ++ (c ∷ [])) → NoPair t b s
-  no-pair-before b [] c f = tt
-  no-pair-before b (x ∷ s) c f = f
+  no_pair_before : (b : ℕ) (s : List ℕ) (c : ℕ) → NoPair t b (s ++ (c ∷ [])) → NoPair t b s
+  no_pair_before b [] c f = tt
+  no_pair_before b (x ∷ s) c f = f
 
-  ordered-before : (s : List ℕ) (c : ℕ) → Ordered t (s ++ (c ∷ [])) → Ordered t s
-  ordered-before [] c h = tt
-  ordered-before (b ∷ s) c h = (no-pair-before b s c h.0, ordered-before s c h.1)
+  ordered_before : (s : List ℕ) (c : ℕ) → Ordered t (s ++ (c ∷ [])) → Ordered t s
+  ordered_before [] c h = tt
+  ordered_before (b ∷ s) c h = (no_pair_before b s c h.0, ordered_before s c h.1)
 
 -- a code point with a class lies at 036F or below
-lowClass : ℕ → ℕ → Bool
-lowClass c class = leb c 0x036F
+low_class : ℕ → ℕ → Bool
+low_class c class = leb c 0x036F
 
-classes-low : T (eachClass lowClass classes16)
-unfolding lowClass classes16
-classes-low = tt
+classes_low : T (each_class low_class classes16)
+unfolding low_class classes16
+classes_low = tt
 
 -- what lies above 036F is a starter
-pub high-starter : (c : ℕ) → 0x036F < c → combiningClass unicode16 c ≡ 0
-unfolding combiningClass unicode16 lowClass
-high-starter c high = go (class-passes lowClass classes16 classes-low c)
+pub high_starter : (c : ℕ) → 0x036F < c → combining_class unicode16 c ≡ 0
+unfolding combining_class unicode16 low_class
+high_starter c high = go (class_passes low_class classes16 classes_low c)
   where
-    go : (classIn classes16 c ≡ 0) ⊎ T (leb c 0x036F) → classIn classes16 c ≡ 0
+    go : (class_in classes16 c ≡ 0) ⊎ T (leb c 0x036F) → class_in classes16 c ≡ 0
     go (inl e) = e
     go (inr h) = absurd (let low : c ≤ 0x036F = leb→le c 0x036F h in let z : ⊥ = omega arith in z)
 
 -- ── stripping, with one code point more at the end
-pub without-append : (s u : List ℕ) → withoutMarks (s ++ u) ≡ withoutMarks s ++ withoutMarks u
-unfolding withoutMarks
-without-append [] u = refl
-without-append (c ∷ s) u =
-    either (isToneMark c)
-    (λ e. without-mark c (s ++ u) e ∙ without-append s u ∙ ap (λ (l : List ℕ). l ++ withoutMarks u) (sym (without-mark c s e)))
-    (λ e. without-other c (s ++ u) e ∙ ap (λ (l : List ℕ). c ∷ l) (without-append s u) ∙ ap (λ (l : List ℕ). l ++ withoutMarks u) (sym (without-other c s e)))
+pub without_append : (s u : List ℕ) → without_marks (s ++ u) ≡ without_marks s ++ without_marks u
+unfolding without_marks
+without_append [] u = refl
+without_append (c ∷ s) u =
+    either (is_tone_mark c)
+    (λ e. without_mark c (s ++ u) e ∙ without_append s u ∙ ap (λ (l : List ℕ). l ++ without_marks u) (sym (without_mark c s e)))
+    (λ e. without_other c (s ++ u) e ∙ ap (λ (l : List ℕ). c ∷ l) (without_append s u) ∙ ap (λ (l : List ℕ). l ++ without_marks u) (sym (without_other c s e)))
 
-pub dropped-append : (s u : List ℕ) → droppedMarks (s ++ u) ≡ droppedMarks s ++ droppedMarks u
-unfolding droppedMarks
-dropped-append [] u = refl
-dropped-append (c ∷ s) u =
-    either (isToneMark c)
-    (λ e. dropped-mark c (s ++ u) e ∙ ap (λ (l : List ℕ). c ∷ l) (dropped-append s u) ∙ ap (λ (l : List ℕ). l ++ droppedMarks u) (sym (dropped-mark c s e)))
-    (λ e. dropped-other c (s ++ u) e ∙ dropped-append s u ∙ ap (λ (l : List ℕ). l ++ droppedMarks u) (sym (dropped-other c s e)))
+pub dropped_append : (s u : List ℕ) → dropped_marks (s ++ u) ≡ dropped_marks s ++ dropped_marks u
+unfolding dropped_marks
+dropped_append [] u = refl
+dropped_append (c ∷ s) u =
+    either (is_tone_mark c)
+    (λ e. dropped_mark c (s ++ u) e ∙ ap (λ (l : List ℕ). c ∷ l) (dropped_append s u) ∙ ap (λ (l : List ℕ). l ++ dropped_marks u) (sym (dropped_mark c s e)))
+    (λ e. dropped_other c (s ++ u) e ∙ dropped_append s u ∙ ap (λ (l : List ℕ). l ++ dropped_marks u) (sym (dropped_other c s e)))
 
-last-append : (o : Tone) (ms : List ℕ) (m : ℕ) → lastTone o (ms ++ (m ∷ [])) ≡ markTone m
-unfolding lastTone
-last-append o [] m = refl
-last-append o (x ∷ ms) m = last-append (markTone x) ms m
+last_append : (o : Tone) (ms : List ℕ) (m : ℕ) → last_tone o (ms ++ (m ∷ [])) ≡ mark_tone m
+unfolding last_tone
+last_append o [] m = refl
+last_append o (x ∷ ms) m = last_append (mark_tone x) ms m
 
-pub nil-without : withoutMarks [] ≡ []
-unfolding withoutMarks
-nil-without = refl
+pub nil_without : without_marks [] ≡ []
+unfolding without_marks
+nil_without = refl
 
-pub nil-dropped : droppedMarks [] ≡ []
-unfolding droppedMarks
-nil-dropped = refl
+pub nil_dropped : dropped_marks [] ≡ []
+unfolding dropped_marks
+nil_dropped = refl
 
 module _ (s : List ℕ) (x : ℕ) where
-  without-last-mark : isToneMark x ≡ true → withoutMarks (s ++ (x ∷ [])) ≡ withoutMarks s
-  without-last-mark e = without-append s (x ∷ []) ∙ ap (λ (l : List ℕ). withoutMarks s ++ l) (without-mark x [] e ∙ nil-without) ∙ append-nil (withoutMarks s)
+  without_last_mark : is_tone_mark x ≡ true → without_marks (s ++ (x ∷ [])) ≡ without_marks s
+  without_last_mark e = without_append s (x ∷ []) ∙ ap (λ (l : List ℕ). without_marks s ++ l) (without_mark x [] e ∙ nil_without) ∙ append-nil (without_marks s)
 
-  without-last : isToneMark x ≡ false → withoutMarks (s ++ (x ∷ [])) ≡ withoutMarks s ++ (x ∷ [])
-  without-last e = without-append s (x ∷ []) ∙ ap (λ (l : List ℕ). withoutMarks s ++ l) (without-other x [] e ∙ ap (λ (l : List ℕ). x ∷ l) nil-without)
+  without_last : is_tone_mark x ≡ false → without_marks (s ++ (x ∷ [])) ≡ without_marks s ++ (x ∷ [])
+  without_last e = without_append s (x ∷ []) ∙ ap (λ (l : List ℕ). without_marks s ++ l) (without_other x [] e ∙ ap (λ (l : List ℕ). x ∷ l) nil_without)
 
-  dropped-last-mark : isToneMark x ≡ true → lastTone None (droppedMarks (s ++ (x ∷ []))) ≡ markTone x
-  dropped-last-mark e =
-      ap (lastTone None) (dropped-append s (x ∷ []) ∙ ap (λ (l : List ℕ). droppedMarks s ++ l) (dropped-mark x [] e ∙ ap (λ (l : List ℕ). x ∷ l) nil-dropped)) ∙ last-append None (droppedMarks s) x
+  dropped_last_mark : is_tone_mark x ≡ true → last_tone None (dropped_marks (s ++ (x ∷ []))) ≡ mark_tone x
+  dropped_last_mark e =
+      ap (last_tone None) (dropped_append s (x ∷ []) ∙ ap (λ (l : List ℕ). dropped_marks s ++ l) (dropped_mark x [] e ∙ ap (λ (l : List ℕ). x ∷ l) nil_dropped)) ∙ last_append None (dropped_marks s) x
 
-  dropped-last : isToneMark x ≡ false → droppedMarks (s ++ (x ∷ [])) ≡ droppedMarks s
-  dropped-last e = dropped-append s (x ∷ []) ∙ ap (λ (l : List ℕ). droppedMarks s ++ l) (dropped-other x [] e ∙ nil-dropped) ∙ append-nil (droppedMarks s)
+  dropped_last : is_tone_mark x ≡ false → dropped_marks (s ++ (x ∷ [])) ≡ dropped_marks s
+  dropped_last e = dropped_append s (x ∷ []) ∙ ap (λ (l : List ℕ). dropped_marks s ++ l) (dropped_other x [] e ∙ nil_dropped) ∙ append-nil (dropped_marks s)
 
 -- what lies below 0300 is no tone mark
-pub low-no-mark : (x : ℕ) → x < 0x0300 → isToneMark x ≡ false
-low-no-mark x h =
+pub low_no_mark : (x : ℕ) → x < 0x0300 → is_tone_mark x ≡ false
+low_no_mark x h =
     let differs : (m : ℕ) → 0x0300 ≤ m → x ≡ m → ⊥ = λ m k e. omega arith in
-    mark-is x ∙ ap isTone (sym (no-mark x (differs 0x0301 (omega arith), (differs 0x0300 (omega arith), (differs 0x0302 (omega arith), (differs 0x0303 (omega arith), (differs 0x0304 (omega arith), (differs 0x030D (omega arith), (differs 0x0306 (omega arith), tt)))))))))
+    mark_is x ∙ ap is_tone (sym (no_mark x (differs 0x0301 (omega arith), (differs 0x0300 (omega arith), (differs 0x0302 (omega arith), (differs 0x0303 (omega arith), (differs 0x0304 (omega arith), (differs 0x030D (omega arith), (differs 0x0306 (omega arith), tt)))))))))
 
 -- ── the steps
-pub stripping-start : (before : List ℕ) → Stripping before before (record { n = 0; mark = 0; behind = 0; sorted = true }) []
-unfolding withoutMarks droppedMarks lastTone markTone encode
-stripping-start before = record { written = written-none before; tone = refl; order = λ e c f. (tt, tt) }
+pub stripping_start : (before : List ℕ) → Stripping before before (record { n = 0; mark = 0; behind = 0; sorted = true }) []
+unfolding without_marks dropped_marks last_tone mark_tone encode
+stripping_start before = record { written = written_none before; tone = refl; order = λ e c f. (tt, tt) }
 
 module _ (before after : List ℕ) (p : Progress) (s : List ℕ) (h : Stripping before after p s) (x : ℕ) where
   -- a tone mark is only remembered
-  pub stripping-mark : isToneMark x ≡ true → Stripping before after (record { n = p.n; mark = x; behind = p.behind; sorted = p.sorted }) (s ++ (x ∷ []))
-  stripping-mark e =
+  pub stripping_mark : is_tone_mark x ≡ true → Stripping before after (record { n = p.n; mark = x; behind = p.behind; sorted = p.sorted }) (s ++ (x ∷ []))
+  stripping_mark e =
       record {
-        written = rw (without-last-mark s x e) h.written;
-        tone = sym (dropped-last-mark s x e);
-        order = λ z c f. rw (without-last-mark s x e) (h.order z c f);
+        written = rw (without_last_mark s x e) h.written;
+        tone = sym (dropped_last_mark s x e);
+        order = λ z c f. rw (without_last_mark s x e) (h.order z c f);
       }
 
   -- anything else is written
-  module _ (e : isToneMark x ≡ false) (after' : List ℕ) (n : ℕ) (w : Written before after' n (encode (withoutMarks s ++ (x ∷ [])))) where
-    kept : Written before after' n (encode (withoutMarks (s ++ (x ∷ []))))
-    kept = rw (without-last s x e) w
+  module _ (e : is_tone_mark x ≡ false) (after' : List ℕ) (n : ℕ) (w : Written before after' n (encode (without_marks s ++ (x ∷ [])))) where
+    kept : Written before after' n (encode (without_marks (s ++ (x ∷ []))))
+    kept = rw (without_last s x e) w
 
-    tone-stays : markTone p.mark ≡ lastTone None (droppedMarks (s ++ (x ∷ [])))
-    tone-stays = h.tone ∙ ap (lastTone None) (sym (dropped-last s x e))
+    tone_stays : mark_tone p.mark ≡ last_tone None (dropped_marks (s ++ (x ∷ [])))
+    tone_stays = h.tone ∙ ap (last_tone None) (sym (dropped_last s x e))
 
     -- a starter: anything may follow it
-    pub stripping-starter : combiningClass unicode16 x ≡ 0 → Stripping before after' (record { n = n; mark = p.mark; behind = 0; sorted = p.sorted }) (s ++ (x ∷ []))
-    stripping-starter k =
+    pub stripping_starter : combining_class unicode16 x ≡ 0 → Stripping before after' (record { n = n; mark = p.mark; behind = 0; sorted = p.sorted }) (s ++ (x ∷ []))
+    stripping_starter k =
         record {
           written = kept;
-          tone = tone-stays;
-          order = λ z c f. rw (without-last s x e) (ordered-behind unicode16 (withoutMarks s) x c (h.order z x (λ r. omega arith)) (λ r. omega arith));
+          tone = tone_stays;
+          order = λ z c f. rw (without_last s x e) (ordered_behind unicode16 (without_marks s) x c (h.order z x (λ r. omega arith)) (λ r. omega arith));
         }
 
     -- a mark in order
-    pub stripping-behind : (Reorderable unicode16 p.behind x → ⊥) → Stripping before after' (record { n = n; mark = p.mark; behind = x; sorted = p.sorted }) (s ++ (x ∷ []))
-    stripping-behind k =
+    pub stripping_behind : (Reorderable unicode16 p.behind x → ⊥) → Stripping before after' (record { n = n; mark = p.mark; behind = x; sorted = p.sorted }) (s ++ (x ∷ []))
+    stripping_behind k =
         record {
           written = kept;
-          tone = tone-stays;
-          order = λ z c f. rw (without-last s x e) (ordered-behind unicode16 (withoutMarks s) x c (h.order z x k) f);
+          tone = tone_stays;
+          order = λ z c f. rw (without_last s x e) (ordered_behind unicode16 (without_marks s) x c (h.order z x k) f);
         }
 
     -- a mark out of order
-    pub stripping-unsorted : Stripping before after' (record { n = n; mark = p.mark; behind = x; sorted = false }) (s ++ (x ∷ []))
-    stripping-unsorted = record { written = kept; tone = tone-stays; order = λ z. absurd (false-true z) }
+    pub stripping_unsorted : Stripping before after' (record { n = n; mark = p.mark; behind = x; sorted = false }) (s ++ (x ∷ []))
+    stripping_unsorted = record { written = kept; tone = tone_stays; order = λ z. absurd (false_true z) }
 
   -- the bytes of one more code point, and of an ASCII character
-  pub written-point : p.n + length (bytesOf x) ≤ length before → Written before (paste after p.n (bytesOf x) (length (bytesOf x))) (p.n + length (bytesOf x)) (encode (withoutMarks s ++ (x ∷ [])))
-  written-point room = rw (encode-more (withoutMarks s) x) (written-run h.written (bytesOf x) room)
+  pub written_point : p.n + length (bytes_of x) ≤ length before → Written before (paste after p.n (bytes_of x) (length (bytes_of x))) (p.n + length (bytes_of x)) (encode (without_marks s ++ (x ∷ [])))
+  written_point room = rw (encode_more (without_marks s) x) (written_run h.written (bytes_of x) room)
 
-  pub written-ascii : x ≤ 0x7F → p.n < length before → Written before (set after p.n x) (p.n + 1) (encode (withoutMarks s ++ (x ∷ [])))
-  written-ascii k room = rw (encode-more (withoutMarks s) x, bytes-one x k) (written-one h.written x room)
+  pub written_ascii : x ≤ 0x7F → p.n < length before → Written before (set after p.n x) (p.n + 1) (encode (without_marks s ++ (x ∷ [])))
+  written_ascii k room = rw (encode_more (without_marks s) x, bytes_one x k) (written_one h.written x room)
 
   -- an ASCII character
-  pub stripping-ascii : x < 0x80 → p.n < length after → Stripping before (set after p.n x) (record { n = p.n + 1; mark = p.mark; behind = 0; sorted = p.sorted }) (s ++ (x ∷ []))
-  stripping-ascii k room =
-      let size : length after ≡ length before = written-length h.written in
-      stripping-starter (low-no-mark x (omega arith)) (set after p.n x) (p.n + 1) (written-ascii (omega arith) (omega arith)) (low-starter x (omega arith))
+  pub stripping_ascii : x < 0x80 → p.n < length after → Stripping before (set after p.n x) (record { n = p.n + 1; mark = p.mark; behind = 0; sorted = p.sorted }) (s ++ (x ∷ []))
+  stripping_ascii k room =
+      let size : length after ≡ length before = written_length h.written in
+      stripping_starter (low_no_mark x (omega arith)) (set after p.n x) (p.n + 1) (written_ascii (omega arith) (omega arith)) (low_starter x (omega arith))
 
 -- two steps, one after the other, and a step that takes the same text
 module _ {p q r : Progress} {entry middle exit u v : List ℕ} where
-  pub further-both : Further p q entry middle u → Further q r middle exit v → Further p r entry exit (u ++ v)
-  further-both f g before s h = rw (← append_assoc s u v) (g before (s ++ u) (f before s h))
+  pub further_both : Further p q entry middle u → Further q r middle exit v → Further p r entry exit (u ++ v)
+  further_both f g before s h = rw (← append_assoc s u v) (g before (s ++ u) (f before s h))
 
-pub further-same : {p q : Progress} {entry exit u v : List ℕ} → u ≡ v → Further p q entry exit u → Further p q entry exit v
-further-same e f before s h = rw (← e) (f before s h)
+pub further_same : {p q : Progress} {entry exit u v : List ℕ} → u ≡ v → Further p q entry exit u → Further p q entry exit v
+further_same e f before s h = rw (← e) (f before s h)
 
 -- a letter of the short lookup, at its code point k
-unfoldable pub isLetter : ℕ → ℕ → Bool
-isLetter k x = same (decomposition unicode16 k) ((x / 65536) ∷ (x % 65536) ∷ []) && (ltb (x / 65536) 0x80 && (isToneMark (x % 65536) && member unicode16 k))
+unfoldable pub is_letter : ℕ → ℕ → Bool
+is_letter k x = same (decomposition unicode16 k) ((x / 65536) ∷ (x % 65536) ∷ []) && (ltb (x / 65536) 0x80 && (is_tone_mark (x % 65536) && member unicode16 k))
 
-pub letter_at : (k x : ℕ) → T (isLetter k x) → (c : ℕ) → c ≡ k → IsLetter c x
-unfolding isLetter
+pub letter_at : (k x : ℕ) → T (is_letter k x) → (c : ℕ) → c ≡ k → IsLetter c x
+unfolding is_letter
 letter_at k x h c e some =
     let both : List ℕ = (x / 65536) ∷ (x % 65536) ∷ [] in
-    let ascii = both-right (same (decomposition unicode16 k) both) (ltb (x / 65536) 0x80 && (isToneMark (x % 65536) && member unicode16 k)) h in
-    let mark = both-right (ltb (x / 65536) 0x80) (isToneMark (x % 65536) && member unicode16 k) ascii in (
-      ap (decomposition unicode16) e ∙ same-equal (decomposition unicode16 k) both (both-left (same (decomposition unicode16 k) both) _ h),
-      ltb→lt (x / 65536) 0x80 (both-left (ltb (x / 65536) 0x80) _ ascii),
-      passes-true _ (both-left (isToneMark (x % 65536)) _ mark),
-      ap (member unicode16) e ∙ passes-true _ (both-right (isToneMark (x % 65536)) _ mark),
+    let ascii = both_right (same (decomposition unicode16 k) both) (ltb (x / 65536) 0x80 && (is_tone_mark (x % 65536) && member unicode16 k)) h in
+    let mark = both_right (ltb (x / 65536) 0x80) (is_tone_mark (x % 65536) && member unicode16 k) ascii in (
+      ap (decomposition unicode16) e ∙ same_equal (decomposition unicode16 k) both (both_left (same (decomposition unicode16 k) both) _ h),
+      ltb→lt (x / 65536) 0x80 (both_left (ltb (x / 65536) 0x80) _ ascii),
+      passes_true _ (both_left (is_tone_mark (x % 65536)) _ mark),
+      ap (member unicode16) e ∙ passes_true _ (both_right (is_tone_mark (x % 65536)) _ mark),
     )
 
 -- its full decomposition
-pub letter-full : (c x : ℕ) → IsLetter c x → (x ≡ 0 → ⊥) → (x / 65536) ∷ (x % 65536) ∷ [] ≡ full unicode16 (c ∷ [])
-letter-full c x h some =
+pub letter_full : (c x : ℕ) → IsLetter c x → (x ≡ 0 → ⊥) → (x / 65536) ∷ (x % 65536) ∷ [] ≡ full unicode16 (c ∷ [])
+letter_full c x h some =
     let low = (h some).1 in
-    sym (full-two c (x / 65536) (x % 65536) (h some).0 ∙ ap (λ (l : List ℕ). l ++ (x % 65536 ∷ [])) (low-atom (x / 65536) (omega arith)))
+    sym (full_two c (x / 65536) (x % 65536) (h some).0 ∙ ap (λ (l : List ℕ). l ++ (x % 65536 ∷ [])) (low_atom (x / 65536) (omega arith)))
 
 -- ── the end: what was stripped is the stripped NFD
 module _ (before after : List ℕ) (p : Progress) (u : List ℕ) (h : Stripping before after p (full unicode16 u)) where
-  sorted-rest : p.sorted ≡ true → withoutMarks (nfd unicode16 u) ≡ withoutMarks (full unicode16 u)
-  sorted-rest e =
-      let q : combiningClass unicode16 0 ≡ 0 = low-starter 0 (omega arith) in
-      nfd-without u (ordered-before unicode16 (withoutMarks (full unicode16 u)) 0 (h.order e 0 (λ r. omega arith)))
+  sorted_rest : p.sorted ≡ true → without_marks (nfd unicode16 u) ≡ without_marks (full unicode16 u)
+  sorted_rest e =
+      let q : combining_class unicode16 0 ≡ 0 = low_starter 0 (omega arith) in
+      nfd_without u (ordered_before unicode16 (without_marks (full unicode16 u)) 0 (h.order e 0 (λ r. omega arith)))
 
-  stripped-bytes : p.sorted ≡ true → Written before after p.n (encode (withoutMarks (nfd unicode16 u)))
-  stripped-bytes e = rw (sorted-rest e) h.written
+  stripped_bytes : p.sorted ≡ true → Written before after p.n (encode (without_marks (nfd unicode16 u)))
+  stripped_bytes e = rw (sorted_rest e) h.written
 
-  stripped-tone : markTone p.mark ≡ lastTone None (droppedMarks (nfd unicode16 u))
-  stripped-tone = h.tone ∙ ap (lastTone None) (sym (nfd-dropped u))
+  stripped_tone : mark_tone p.mark ≡ last_tone None (dropped_marks (nfd unicode16 u))
+  stripped_tone = h.tone ∙ ap (last_tone None) (sym (nfd_dropped u))
 
 -- ── the loop: the first i bytes of s are read and stripped, and there is room for the others, were they ASCII
 pub record Walking (s before out : List ℕ) (i : ℕ) (p : Progress) : Type 0 where
@@ -227,33 +227,33 @@ pub record Walking (s before out : List ℕ) (i : ℕ) (p : Progress) : Type 0 w
   pub stripping : Stripping before out p (full unicode16 text)
 
 -- ASCII decomposes no further
-pub ascii-full : (x : ℕ) → x < 0x80 → full unicode16 (x ∷ []) ≡ x ∷ []
-ascii-full x h = full-itself x (low-atom x (omega arith))
+pub ascii_full : (x : ℕ) → x < 0x80 → full unicode16 (x ∷ []) ≡ x ∷ []
+ascii_full x h = full_itself x (low_atom x (omega arith))
 
 module _ (s before : List ℕ) where
-  pub walking-start : length s ≤ length before → Walking s before before 0 (record { n = 0; mark = 0; behind = 0; sorted = true })
-  walking-start fit =
-      record { inside = omega arith; room = omega arith; text = []; taken = taken-start unicode16 s; stripping = rw (full-nil unicode16) (stripping-start before) }
+  pub walking_start : length s ≤ length before → Walking s before before 0 (record { n = 0; mark = 0; behind = 0; sorted = true })
+  walking_start fit =
+      record { inside = omega arith; room = omega arith; text = []; taken = taken_start unicode16 s; stripping = rw (full_nil unicode16) (stripping_start before) }
 
   module _ (out : List ℕ) (i : ℕ) (p : Progress) (r : Walking s before out i p) where
     -- a turn that reads a sequence of width w and code point x
-    pub walking-more : i < length s → (w x : ℕ) → ReadOf (drop i s) w x → 0 < w → member unicode16 x ≡ true
+    pub walking_more : i < length s → (w x : ℕ) → ReadOf (drop i s) w x → 0 < w → member unicode16 x ≡ true
         → (q : Progress) (out' : List ℕ) → Further p q out out' (full unicode16 (x ∷ [])) → q.n + (length s - (i + w)) ≤ length before → Walking s before out' (i + w) q
-    walking-more h w x read some m q out' step room =
-        let wide : w ≡ widthAt (drop i s) = read.wide in
-        let point : x ≡ pointAt (drop i s) = read.read some in
+    walking_more h w x read some m q out' step room =
+        let wide : w ≡ width_at (drop i s) = read.wide in
+        let point : x ≡ point_at (drop i s) = read.read some in
         record {
-          inside = omega (arith, width-within s i h);
+          inside = omega (arith, width_within s i h);
           room = room;
           text = r.text ++ (x ∷ []);
-          taken = rw (point, wide) (taken-more unicode16 s r.text i r.taken h (omega arith) (ap (member unicode16) (sym point) ∙ m));
-          stripping = rw (full-append unicode16 r.text (x ∷ [])) (step before (full unicode16 r.text) r.stripping);
+          taken = rw (point, wide) (taken_more unicode16 s r.text i r.taken h (omega arith) (ap (member unicode16) (sym point) ∙ m));
+          stripping = rw (full_append unicode16 r.text (x ∷ [])) (step before (full unicode16 r.text) r.stripping);
         }
 
-    pub walking-end : length s ≤ i → p.sorted ≡ true → (tone : Tone) → tone ≡ markTone p.mark → Walked s before out (Whole (record { 0 = p.n }) tone)
-    walking-end h e tone is = (
+    pub walking_end : length s ≤ i → p.sorted ≡ true → (tone : Tone) → tone ≡ mark_tone p.mark → Walked s before out (Whole (record { 0 = p.n }) tone)
+    walking_end h e tone is = (
       r.text,
-      taken-end unicode16 s r.text i r.taken h,
-      stripped-bytes before out p r.text r.stripping e,
-      is ∙ stripped-tone before out p r.text r.stripping,
+      taken_end unicode16 s r.text i r.taken h,
+      stripped_bytes before out p r.text r.stripping e,
+      is ∙ stripped_tone before out p r.text r.stripping,
     )

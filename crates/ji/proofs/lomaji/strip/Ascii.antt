@@ -6,25 +6,25 @@ use mathlib.Core.Logic.{inl}
 use Prim.Native.Nat.{ℕ}
 use Rattle.ucd.specs.Table.{All}
 use Rattle.ucd.specs.Unicode16.{unicode16}
-use Rattle.ji.specs.Text.{allAscii}
+use Rattle.ji.specs.Text.{all_ascii}
 use Rattle.ji.specs.Utf8.{encode}
-use Rattle.ji.specs.Lomaji.Strip.{lastTone, unmarkedTone, stripped, strip}
+use Rattle.ji.specs.Lomaji.Strip.{last_tone, unmarked_tone, stripped, strip}
 use Rattle.ji.specs.Lomaji.Single.{Kept}
 use Rattle.ji.specs.declared.tone.Tone.{Tone}
-use Rattle.ji.proofs.unicode.Ascii.{ascii-low, ascii-rest, ascii-bytes}
-use Rattle.ji.proofs.lomaji.strip.Laws.{last-none}
-use Rattle.ji.proofs.lomaji.single.Laws.{kept-rest, kept-marks}
+use Rattle.ji.proofs.unicode.Ascii.{ascii_low, ascii_rest, ascii_bytes}
+use Rattle.ji.proofs.lomaji.strip.Laws.{last_none}
+use Rattle.ji.proofs.lomaji.single.Laws.{kept_rest, kept_marks}
 
-ascii-kept : (s : List ℕ) → allAscii s ≡ true → All Kept s
-ascii-kept [] h = tt
-ascii-kept (x ∷ s) h = (inl (ascii-low x s h), ascii-kept s (ascii-rest x s h))
+ascii_kept : (s : List ℕ) → all_ascii s ≡ true → All Kept s
+ascii_kept [] h = tt
+ascii_kept (x ∷ s) h = (inl (ascii_low x s h), ascii_kept s (ascii_rest x s h))
 
-pub ascii-stripped : (s : List ℕ) → allAscii s ≡ true → (strip unicode16 s).rest ≡ s
+pub ascii_stripped : (s : List ℕ) → all_ascii s ≡ true → (strip unicode16 s).rest ≡ s
 unfolding stripped
-ascii-stripped s h = kept-rest s (ascii-kept s h)
+ascii_stripped s h = kept_rest s (ascii_kept s h)
 
-pub ascii-tone : (s : List ℕ) → allAscii s ≡ true → (strip unicode16 s).tone ≡ unmarkedTone s
+pub ascii_tone : (s : List ℕ) → all_ascii s ≡ true → (strip unicode16 s).tone ≡ unmarked_tone s
 unfolding stripped
-ascii-tone s h =
-    ap₂ (λ (o : Tone) (ms : List ℕ). lastTone o ms) (ap (λ (u : List ℕ). unmarkedTone (encode u)) (ascii-stripped s h) ∙ ap unmarkedTone (ascii-bytes s h)) (kept-marks s (ascii-kept s h))
-    ∙ last-none (unmarkedTone s)
+ascii_tone s h =
+    ap₂ (λ (o : Tone) (ms : List ℕ). last_tone o ms) (ap (λ (u : List ℕ). unmarked_tone (encode u)) (ascii_stripped s h) ∙ ap unmarked_tone (ascii_bytes s h)) (kept_marks s (ascii_kept s h))
+    ∙ last_none (unmarked_tone s)

@@ -8,125 +8,125 @@ use native.Mathlib.Decide.{dec_lt}
 use native.Mathlib.Omega.{arith}
 use lib.Dec.{eqb}
 use borrow.Author.Tests.{eq-eqb, eqb-true}
-use Rattle.ucd.specs.Table.{combiningClass, classIn, pickText}
+use Rattle.ucd.specs.Table.{combining_class, class_in, pick_text}
 use Rattle.ucd.specs.Full.{full}
 use Rattle.ucd.specs.Unicode16.{unicode16, classes16}
-use Rattle.ji.specs.Nfd.{Reorderable, Exchange, here, there, Exchanges, none, more, NoPair, Ordered, order, ofClass, nfd}
-use Rattle.ji.specs.Lomaji.Strip.{toneMarks, markIn, isToneMark, withoutMarks, droppedMarks}
+use Rattle.ji.specs.Nfd.{Reorderable, Exchange, here, there, Exchanges, none, more, NoPair, Ordered, order, of_class, nfd}
+use Rattle.ji.specs.Lomaji.Strip.{tone_marks, mark_in, is_tone_mark, without_marks, dropped_marks}
 use Rattle.ji.specs.declared.tone.Tone.{Tone}
-use Rattle.ji.proofs.Bools.{either, false-true, or-yes, or-no, text-yes, text-no}
-use Rattle.ji.proofs.Order.{exchanges-join, exchanges-behind, order-reached, order-ordered, ordered-fixed, order-only, order-stable}
+use Rattle.ji.proofs.Bools.{either, false_true, or_yes, or_no, text_yes, text_no}
+use Rattle.ji.proofs.Order.{exchanges_join, exchanges_behind, order_reached, order_ordered, ordered_fixed, order_only, order_stable}
 
 -- ── the class of the tone marks
 abbrev OfClass230 : List (ℕ × Tone) → Type 0
 OfClass230 [] = Unit {0}
-OfClass230 (m ∷ ms) = (combiningClass unicode16 m.0 ≡ 230) × OfClass230 ms
+OfClass230 (m ∷ ms) = (combining_class unicode16 m.0 ≡ 230) × OfClass230 ms
 
-classes-230 : OfClass230 toneMarks
-unfolding combiningClass unicode16 classes16 classIn
-classes-230 = (refl, (refl, (refl, (refl, (refl, (refl, (refl, tt)))))))
+classes_230 : OfClass230 tone_marks
+unfolding combining_class unicode16 classes16 class_in
+classes_230 = (refl, (refl, (refl, (refl, (refl, (refl, (refl, tt)))))))
 
-class-in : (ms : List (ℕ × Tone)) → OfClass230 ms → (c : ℕ) → markIn ms c ≡ true → combiningClass unicode16 c ≡ 230
-class-in [] h c e = absurd (false-true e)
-class-in (m ∷ ms) h c e =
+class_in_law : (ms : List (ℕ × Tone)) → OfClass230 ms → (c : ℕ) → mark_in ms c ≡ true → combining_class unicode16 c ≡ 230
+class_in_law [] h c e = absurd (false_true e)
+class_in_law (m ∷ ms) h c e =
     either (eqb m.0 c)
-    (λ y. ap (combiningClass unicode16) (sym (eqb-true m.0 c y)) ∙ h.0)
-    (λ n. class-in ms h.1 c (sym (or-no (eqb m.0 c) (markIn ms c) n) ∙ e))
+    (λ y. ap (combining_class unicode16) (sym (eqb-true m.0 c y)) ∙ h.0)
+    (λ n. class_in_law ms h.1 c (sym (or_no (eqb m.0 c) (mark_in ms c) n) ∙ e))
 
-pub mark-class : (c : ℕ) → isToneMark c ≡ true → combiningClass unicode16 c ≡ 230
-unfolding isToneMark
-mark-class c e = class-in toneMarks classes-230 c e
+pub mark_class_law : (c : ℕ) → is_tone_mark c ≡ true → combining_class unicode16 c ≡ 230
+unfolding is_tone_mark
+mark_class_law c e = class_in_law tone_marks classes_230 c e
 
 -- ── a text without its marks, one code point at a time
 module _ (c : ℕ) (s : List ℕ) where
-  pub without-mark : isToneMark c ≡ true → withoutMarks (c ∷ s) ≡ withoutMarks s
-  unfolding withoutMarks
-  without-mark e = text-yes _ _ _ e
+  pub without_mark : is_tone_mark c ≡ true → without_marks (c ∷ s) ≡ without_marks s
+  unfolding without_marks
+  without_mark e = text_yes _ _ _ e
 
-  pub without-other : isToneMark c ≡ false → withoutMarks (c ∷ s) ≡ c ∷ withoutMarks s
-  unfolding withoutMarks
-  without-other e = text-no _ _ _ e
+  pub without_other : is_tone_mark c ≡ false → without_marks (c ∷ s) ≡ c ∷ without_marks s
+  unfolding without_marks
+  without_other e = text_no _ _ _ e
 
-  pub dropped-mark : isToneMark c ≡ true → droppedMarks (c ∷ s) ≡ c ∷ droppedMarks s
-  unfolding droppedMarks
-  dropped-mark e = text-yes _ _ _ e
+  pub dropped_mark : is_tone_mark c ≡ true → dropped_marks (c ∷ s) ≡ c ∷ dropped_marks s
+  unfolding dropped_marks
+  dropped_mark e = text_yes _ _ _ e
 
-  pub dropped-other : isToneMark c ≡ false → droppedMarks (c ∷ s) ≡ droppedMarks s
-  unfolding droppedMarks
-  dropped-other e = text-no _ _ _ e
+  pub dropped_other : is_tone_mark c ≡ false → dropped_marks (c ∷ s) ≡ dropped_marks s
+  unfolding dropped_marks
+  dropped_other e = text_no _ _ _ e
 
 -- ── what is left is put in order as if there had been no marks
 -- an exchange is an exchange of what is left, or nothing where a mark is exchanged
-exchange-without : {s u : List ℕ} → Exchange unicode16 s u → Exchanges unicode16 (withoutMarks s) (withoutMarks u)
-exchange-without (here {a} {b} {s} h) =
-    either (isToneMark a)
-    (λ x. rw (without-mark a (b ∷ s) x)
-    (either (isToneMark b)
-    (λ y. rw (without-mark b s y, without-mark b (a ∷ s) y, without-mark a s x) none)
-    (λ y. rw (without-other b s y, without-other b (a ∷ s) y, without-mark a s x) none)))
-    (λ x. rw (without-other a (b ∷ s) x)
-    (either (isToneMark b)
-    (λ y. rw (without-mark b s y, without-mark b (a ∷ s) y, without-other a s x) none)
-    (λ y. rw (without-other b s y, without-other b (a ∷ s) y, without-other a s x) (more (here h) none))))
-exchange-without (there {c} {s} {u} x) =
-    either (isToneMark c)
-    (λ e. rw (without-mark c s e, without-mark c u e) (exchange-without x))
-    (λ e. rw (without-other c s e, without-other c u e) (exchanges-behind unicode16 (c ∷ []) (exchange-without x)))
+exchange_without : {s u : List ℕ} → Exchange unicode16 s u → Exchanges unicode16 (without_marks s) (without_marks u)
+exchange_without (here {a} {b} {s} h) =
+    either (is_tone_mark a)
+    (λ x. rw (without_mark a (b ∷ s) x)
+    (either (is_tone_mark b)
+    (λ y. rw (without_mark b s y, without_mark b (a ∷ s) y, without_mark a s x) none)
+    (λ y. rw (without_other b s y, without_other b (a ∷ s) y, without_mark a s x) none)))
+    (λ x. rw (without_other a (b ∷ s) x)
+    (either (is_tone_mark b)
+    (λ y. rw (without_mark b s y, without_mark b (a ∷ s) y, without_other a s x) none)
+    (λ y. rw (without_other b s y, without_other b (a ∷ s) y, without_other a s x) (more (here h) none))))
+exchange_without (there {c} {s} {u} x) =
+    either (is_tone_mark c)
+    (λ e. rw (without_mark c s e, without_mark c u e) (exchange_without x))
+    (λ e. rw (without_other c s e, without_other c u e) (exchanges_behind unicode16 (c ∷ []) (exchange_without x)))
 
-exchanges-without : {s u : List ℕ} → Exchanges unicode16 s u → Exchanges unicode16 (withoutMarks s) (withoutMarks u)
-exchanges-without none = none
-exchanges-without (more x xs) = exchanges-join unicode16 (exchange-without x) (exchanges-without xs)
+exchanges_without : {s u : List ℕ} → Exchanges unicode16 s u → Exchanges unicode16 (without_marks s) (without_marks u)
+exchanges_without none = none
+exchanges_without (more x xs) = exchanges_join unicode16 (exchange_without x) (exchanges_without xs)
 
 -- a text in order stays so when a mark that stands behind its first code point is taken out
-no-pair-past : (a m : ℕ) (s : List ℕ) → combiningClass unicode16 m ≡ 230 → (Reorderable unicode16 a m → ⊥) → NoPair unicode16 m s → NoPair unicode16 a s
-no-pair-past a m [] e f g = tt
-no-pair-past a m (b ∷ s) e f g = λ h. by-class (dec_lt (combiningClass unicode16 m) (combiningClass unicode16 a)) h
+no_pair_past : (a m : ℕ) (s : List ℕ) → combining_class unicode16 m ≡ 230 → (Reorderable unicode16 a m → ⊥) → NoPair unicode16 m s → NoPair unicode16 a s
+no_pair_past a m [] e f g = tt
+no_pair_past a m (b ∷ s) e f g = λ h. by_class (dec_lt (combining_class unicode16 m) (combining_class unicode16 a)) h
   where
-    by-class : Dec (combiningClass unicode16 m < combiningClass unicode16 a) → Reorderable unicode16 a b → ⊥
-    by-class (yes k) h = f (omega arith, k)
-    by-class (no k) h = g (h.0, omega arith)
+    by_class : Dec (combining_class unicode16 m < combining_class unicode16 a) → Reorderable unicode16 a b → ⊥
+    by_class (yes k) h = f (omega arith, k)
+    by_class (no k) h = g (h.0, omega arith)
 
-without-no-pair : (a : ℕ) (s : List ℕ) → NoPair unicode16 a s → Ordered unicode16 s → NoPair unicode16 a (withoutMarks s)
-unfolding withoutMarks
-without-no-pair a [] f h = tt
-without-no-pair a (m ∷ s) f h =
-    either (isToneMark m)
-    (λ e. rw (without-mark m s e) (without-no-pair a s (no-pair-past a m s (mark-class m e) f h.0) h.1))
-    (λ e. rw (without-other m s e) f)
+without_no_pair : (a : ℕ) (s : List ℕ) → NoPair unicode16 a s → Ordered unicode16 s → NoPair unicode16 a (without_marks s)
+unfolding without_marks
+without_no_pair a [] f h = tt
+without_no_pair a (m ∷ s) f h =
+    either (is_tone_mark m)
+    (λ e. rw (without_mark m s e) (without_no_pair a s (no_pair_past a m s (mark_class_law m e) f h.0) h.1))
+    (λ e. rw (without_other m s e) f)
 
-without-ordered : (s : List ℕ) → Ordered unicode16 s → Ordered unicode16 (withoutMarks s)
-unfolding withoutMarks
-without-ordered [] h = tt
-without-ordered (c ∷ s) h =
-    either (isToneMark c)
-    (λ e. rw (without-mark c s e) (without-ordered s h.1))
-    (λ e. rw (without-other c s e) (without-no-pair c s h.0 h.1, without-ordered s h.1))
+without_ordered : (s : List ℕ) → Ordered unicode16 s → Ordered unicode16 (without_marks s)
+unfolding without_marks
+without_ordered [] h = tt
+without_ordered (c ∷ s) h =
+    either (is_tone_mark c)
+    (λ e. rw (without_mark c s e) (without_ordered s h.1))
+    (λ e. rw (without_other c s e) (without_no_pair c s h.0 h.1, without_ordered s h.1))
 
 -- stripping commutes with canonical order
-pub without-order : (s : List ℕ) → withoutMarks (order unicode16 s) ≡ order unicode16 (withoutMarks s)
-without-order s =
-    order-only unicode16 (withoutMarks s) (withoutMarks (order unicode16 s)) (exchanges-without (order-reached unicode16 s)) (without-ordered (order unicode16 s) (order-ordered unicode16 s))
+pub without_order : (s : List ℕ) → without_marks (order unicode16 s) ≡ order unicode16 (without_marks s)
+without_order s =
+    order_only unicode16 (without_marks s) (without_marks (order unicode16 s)) (exchanges_without (order_reached unicode16 s)) (without_ordered (order unicode16 s) (order_ordered unicode16 s))
 
 -- ── the marks keep their order
-dropped-of-class : (s : List ℕ) → droppedMarks (ofClass unicode16 230 s) ≡ droppedMarks s
-unfolding ofClass droppedMarks
-dropped-of-class [] = refl
-dropped-of-class (c ∷ s) =
-    either (eqb (combiningClass unicode16 c) 230 || eqb (combiningClass unicode16 c) 0)
-    (λ y. ap droppedMarks (text-yes _ _ _ y) ∙ ap (λ (l : List ℕ). pickText (isToneMark c) (c ∷ l) l) (dropped-of-class s))
-    (λ n. ap droppedMarks (text-no _ _ _ n) ∙ dropped-of-class s ∙ sym (text-no _ _ _ (no-tone n)))
+dropped_of_class : (s : List ℕ) → dropped_marks (of_class unicode16 230 s) ≡ dropped_marks s
+unfolding of_class dropped_marks
+dropped_of_class [] = refl
+dropped_of_class (c ∷ s) =
+    either (eqb (combining_class unicode16 c) 230 || eqb (combining_class unicode16 c) 0)
+    (λ y. ap dropped_marks (text_yes _ _ _ y) ∙ ap (λ (l : List ℕ). pick_text (is_tone_mark c) (c ∷ l) l) (dropped_of_class s))
+    (λ n. ap dropped_marks (text_no _ _ _ n) ∙ dropped_of_class s ∙ sym (text_no _ _ _ (no_tone n)))
   where
-    no-tone : (eqb (combiningClass unicode16 c) 230 || eqb (combiningClass unicode16 c) 0) ≡ false → isToneMark c ≡ false
-    no-tone n = either (isToneMark c) (λ e. absurd (false-true (sym n ∙ or-yes _ _ (eq-eqb _ _ (mark-class c e))))) (λ e. e)
+    no_tone : (eqb (combining_class unicode16 c) 230 || eqb (combining_class unicode16 c) 0) ≡ false → is_tone_mark c ≡ false
+    no_tone n = either (is_tone_mark c) (λ e. absurd (false_true (sym n ∙ or_yes _ _ (eq-eqb _ _ (mark_class_law c e))))) (λ e. e)
 
-pub dropped-order : (s : List ℕ) → droppedMarks (order unicode16 s) ≡ droppedMarks s
-dropped-order s = sym (dropped-of-class (order unicode16 s)) ∙ ap droppedMarks (order-stable unicode16 230 s) ∙ dropped-of-class s
+pub dropped_order : (s : List ℕ) → dropped_marks (order unicode16 s) ≡ dropped_marks s
+dropped_order s = sym (dropped_of_class (order unicode16 s)) ∙ ap dropped_marks (order_stable unicode16 230 s) ∙ dropped_of_class s
 
 -- so a text whose rest, fully decomposed, is in order as it stands is stripped as it stands
-pub nfd-without : (u : List ℕ) → Ordered unicode16 (withoutMarks (full unicode16 u)) → withoutMarks (nfd unicode16 u) ≡ withoutMarks (full unicode16 u)
+pub nfd_without : (u : List ℕ) → Ordered unicode16 (without_marks (full unicode16 u)) → without_marks (nfd unicode16 u) ≡ without_marks (full unicode16 u)
 unfolding nfd
-nfd-without u h = without-order (full unicode16 u) ∙ ordered-fixed unicode16 (withoutMarks (full unicode16 u)) h
+nfd_without u h = without_order (full unicode16 u) ∙ ordered_fixed unicode16 (without_marks (full unicode16 u)) h
 
-pub nfd-dropped : (u : List ℕ) → droppedMarks (nfd unicode16 u) ≡ droppedMarks (full unicode16 u)
+pub nfd_dropped : (u : List ℕ) → dropped_marks (nfd unicode16 u) ≡ dropped_marks (full unicode16 u)
 unfolding nfd
-nfd-dropped u = dropped-order (full unicode16 u)
+nfd_dropped u = dropped_order (full unicode16 u)

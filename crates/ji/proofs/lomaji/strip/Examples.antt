@@ -3,13 +3,13 @@
 use mathlib.Core.Path.{◌≡◌, refl}
 use mathlib.Core.List.{List, [], ◌∷◌}
 use Prim.Native.Nat.{ℕ}
-use Rattle.ucd.specs.Table.{same, mappingIn, classIn, decomposition, combiningClass}
+use Rattle.ucd.specs.Table.{same, mapping_in, class_in, decomposition, combining_class}
 use Rattle.ucd.specs.Full.{pass, passes, full}
 use Rattle.ucd.specs.Unicode16.{unicode16, mappings16, classes16}
 use Rattle.ji.specs.Text.{points, marked, lower}
-use Rattle.ji.specs.Utf8.{bytesOf, encode}
+use Rattle.ji.specs.Utf8.{bytes_of, encode}
 use Rattle.ji.specs.Nfd.{reorderable, insert, order, nfd}
-use Rattle.ji.specs.Lomaji.Strip.{markTone, isToneMark, withoutMarks, droppedMarks, lastTone, endsIn, unmarkedTone, stripped, strip}
+use Rattle.ji.specs.Lomaji.Strip.{mark_tone, is_tone_mark, without_marks, dropped_marks, last_tone, ends_in, unmarked_tone, stripped, strip}
 use Rattle.ji.specs.declared.tone.Tone.{Tone}
 use Rattle.ji.specs.declared.tone.Tone.TheVariants.{T1, T2, T3, T4, T5, T6, T7, T8, T9}
 
@@ -48,5 +48,5 @@ examples =
     ∷ []
 
 right : Right examples
-unfolding same mappingIn classIn decomposition combiningClass pass passes full unicode16 mappings16 classes16 lower bytesOf encode reorderable insert order nfd markTone isToneMark withoutMarks droppedMarks lastTone endsIn unmarkedTone stripped
+unfolding same mapping_in class_in decomposition combining_class pass passes full unicode16 mappings16 classes16 lower bytes_of encode reorderable insert order nfd mark_tone is_tone_mark without_marks dropped_marks last_tone ends_in unmarked_tone stripped
 right = (refl, (refl, (refl, (refl, (refl, (refl, (refl, (refl, (refl, (refl, (refl, (refl, (refl, (refl, (refl, (refl, (refl, (refl, (refl, (refl, (refl, (refl, tt))))))))))))))))))))))

@@ -13,9 +13,9 @@ use Rattle.ji.specs.Nfc.{compose, nfc}
 use Rattle.ji.specs.Reply.{over, placed}
 use Rattle.ji.specs.Utf8.{encode}
 use Rattle.ji.specs.Normalising.{exchanged}
-use Rattle.ji.proofs.text.Laws.{replace-same-length}
-use Rattle.ji.proofs.Order.{order-length}
-use Rattle.ji.proofs.Writing.{written-from, written-drop, written-over}
+use Rattle.ji.proofs.text.Laws.{replace_same_length}
+use Rattle.ji.proofs.Order.{order_length}
+use Rattle.ji.proofs.Writing.{written_from, written_drop, written_over}
 use Rattle.ji.proofs.Readings.{front}
 use native.Mathlib.Omega.{arith}
 use Rattle.ji.proofs.nfc.place_in.Goals as goal
@@ -31,27 +31,27 @@ module _ (s before d : List ℕ) (n : ℕ) (w : Written before d n (full t s)) (
 
   size : length (nfd t s) ≡ n
   unfolding nfd
-  size = order-length t (full t s) ∙ w.size
+  size = order_length t (full t s) ∙ w.size
 
   whole : Written before (nfd t s ++ drop n d) n (nfd t s)
-  whole = written-over w (nfd t s) size
+  whole = written_over w (nfd t s) size
 
   abbrev buffer : List ℕ
   buffer = o ++ drop (n - 0) d
 
-  buffer-is : buffer ≡ nfd t s ++ drop n d
-  buffer-is = rw (ordered, sub-zero n) refl
+  buffer_is : buffer ≡ nfd t s ++ drop n d
+  buffer_is = rw (ordered, sub-zero n) refl
 
   part : take (n - 0) buffer ≡ nfd t s
-  part = ap (take (n - 0)) buffer-is ∙ front whole
+  part = ap (take (n - 0)) buffer_is ∙ front whole
 
   rest : drop (n - 0) buffer ≡ drop (length (nfd t s)) before
-  rest = rw (buffer-is, sub-zero n, size) (written-drop whole)
+  rest = rw (buffer_is, sub-zero n, size) (written_drop whole)
 
   module _ (r : ℕ) (e : List ℕ) (is-r : r ≡ length (compose t (take (n - 0) buffer))) (is-e : e ≡ compose t (take (n - 0) buffer) ++ drop r (take (n - 0) buffer)) (kept : length e ≡ length (take (n - 0) buffer)) where
     left : Written (nfd t s) e r (nfc t s)
     unfolding nfc
-    left = subst (λ (u : List ℕ). Written u e r (compose t u)) part (written-from _ _ _ _ is-r is-e kept)
+    left = subst (λ (u : List ℕ). Written u e r (compose t u)) part (written_from _ _ _ _ is-r is-e kept)
 
     normalised : (r ≡ length (nfc t s)) × (e ++ drop (n - 0) buffer ≡ over (nfc t s) (over (nfd t s) before))
     normalised = (
@@ -62,14 +62,14 @@ module _ (s before d : List ℕ) (n : ℕ) (w : Written before d n (full t s)) (
 
   -- the front of the buffer, once the pair is exchanged in it
   module _ (a b r : ℕ) (buffer part : List ℕ) (is-r : r ≡ length (nfc t s)) (is-buffer : buffer ≡ over (nfc t s) (over (nfd t s) before)) (is : part ≡ exchanged a b (take (r - 0) buffer)) where
-    exchanged-front : take (r - 0) (part ++ drop (r - 0) buffer) ≡ exchanged a b (nfc t s)
-    exchanged-front =
-        let front-is : take (r - 0) buffer ≡ nfc t s =
+    exchanged_front : take (r - 0) (part ++ drop (r - 0) buffer) ≡ exchanged a b (nfc t s)
+    exchanged_front =
+        let front_is : take (r - 0) buffer ≡ nfc t s =
         rw (is-buffer, is-r, sub-zero (length (nfc t s))) (take-append_seam (nfc t s) (drop (length (nfc t s)) (over (nfd t s) before))) in
-        let part-is : part ≡ exchanged a b (nfc t s) = is ∙ ap (exchanged a b) front-is in
+        let part_is : part ≡ exchanged a b (nfc t s) = is ∙ ap (exchanged a b) front_is in
         let long : length part ≡ r - 0 =
-        ap length part-is ∙ replace-same-length (a ∷ b ∷ []) (b ∷ a ∷ []) (omega arith) refl (nfc t s) ∙ sym (sub-zero r ∙ is-r) in
-        rw (← long) (take-append_seam part (drop (length part) buffer)) ∙ part-is
+        ap length part_is ∙ replace_same_length (a ∷ b ∷ []) (b ∷ a ∷ []) (omega arith) refl (nfc t s) ∙ sym (sub-zero r ∙ is-r) in
+        rw (← long) (take-append_seam part (drop (length part) buffer)) ∙ part_is
 
 pub returns : goal.returns
 returns c =
@@ -80,4 +80,4 @@ returns c =
     let r = normalised a.s.now a.work.now d.new.out d.result d.ensures o.new.s o.ensures k.result k.new.s k.ensures.0 k.ensures.1 k.auto.s in
     c.place.ensures
     ∙ ap (λ (u : List ℕ). placed 0 (encode u) a.out.now)
-    (exchanged-front a.s.now a.work.now d.new.out d.result d.ensures o.new.s o.ensures a.a a.b k.result _ c.replace_pair.new.s r.0 r.1 c.replace_pair.ensures)
+    (exchanged_front a.s.now a.work.now d.new.out d.result d.ensures o.new.s o.ensures a.a a.b k.result _ c.replace_pair.new.s r.0 r.1 c.replace_pair.ensures)

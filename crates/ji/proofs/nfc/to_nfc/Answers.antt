@@ -5,27 +5,27 @@ use Rattle.ucd.specs.Unicode16.{unicode16}
 use Rattle.ji.specs.Utf8.{encode}
 use Rattle.ji.specs.Nfc.{compose, nfc}
 use Rattle.ji.specs.Reply.{placed}
-use Rattle.ji.proofs.Writing.{written-length}
-use Rattle.ji.proofs.Replies.{text-refused, text-good}
-use Rattle.ji.proofs.Readings.{front, nfd-told}
+use Rattle.ji.proofs.Writing.{written_length}
+use Rattle.ji.proofs.Replies.{text_refused, text_good}
+use Rattle.ji.proofs.Readings.{front, nfd_told}
 use native.Mathlib.Omega.{arith}
 use Rattle.ji.proofs.nfc.to_nfc.Goals as goal
 
 pub slice_bounds-points-end : goal.slice_bounds-points-end
 slice_bounds-points-end c =
-    let w = (nfd-told unicode16 _ _ _ c.in-Points.is c.read_nfd.ensures).2 in
-    omega (arith, w.fits, written-length w)
+    let w = (nfd_told unicode16 _ _ _ c.in-Points.is c.read_nfd.ensures).2 in
+    omega (arith, w.fits, written_length w)
 
 pub returns-in-Refused : goal.returns-in-Refused
 returns-in-Refused c =
     let a = c.args in
-    text-refused unicode16 (nfc unicode16) a.text.now a.out.now _ (nfd-told unicode16 _ _ _ c.in-Refused.is c.read_nfd.ensures).0
+    text_refused unicode16 (nfc unicode16) a.text.now a.out.now _ (nfd_told unicode16 _ _ _ c.in-Refused.is c.read_nfd.ensures).0
 
 pub returns-in-Points : goal.returns-in-Points
 unfolding nfc
 returns-in-Points c =
     let a = c.args in
-    let h = nfd-told unicode16 _ _ _ c.in-Points.is c.read_nfd.ensures in
+    let h = nfd_told unicode16 _ _ _ c.in-Points.is c.read_nfd.ensures in
     c.place_composed.ensures
     ∙ ap (λ (s : List ℕ). placed 0 (encode (compose unicode16 s)) a.out.now) (front h.2)
-    ∙ text-good unicode16 (nfc unicode16) a.text.now a.out.now h.0 h.1
+    ∙ text_good unicode16 (nfc unicode16) a.text.now a.out.now h.0 h.1

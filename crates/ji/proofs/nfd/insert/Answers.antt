@@ -3,7 +3,7 @@ use mathlib.Core.Path.{refl}
 use native.Mathlib.Omega.{arith}
 use lib.ListN.{length-set}
 use Rattle.ucd.specs.Unicode16.{unicode16}
-use Rattle.ji.proofs.OrderLoops.{inserting-more, inserting-end}
+use Rattle.ji.proofs.OrderLoops.{inserting_more, inserting_end}
 use Rattle.ji.proofs.nfd.insert.Goals as goal
 
 pub loop-j-init : goal.loop-j-init
@@ -14,9 +14,9 @@ loop-j-smaller c = simp length-set (omega arith)
 
 pub loop-j-preserved : goal.loop-j-preserved
 loop-j-preserved c =
-    inserting-more unicode16 c.loop-j.invariant c.loop-j-test.true (omega arith)
+    inserting_more unicode16 c.loop-j.invariant c.loop-j-test.true (omega arith)
 
 pub returns : goal.returns
 returns c =
-    inserting-end unicode16 c.loop-j.invariant
+    inserting_end unicode16 c.loop-j.invariant
     (λ h w. grind arith)

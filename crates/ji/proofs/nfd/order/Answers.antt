@@ -1,8 +1,8 @@
 -- `ji::nfd::order` meets its contract: a text that is in order is its own order.
 use mathlib.Core.Path.{sym}
 use Rattle.ucd.specs.Unicode16.{unicode16}
-use Rattle.ji.proofs.Order.{ordered-fixed}
+use Rattle.ji.proofs.Order.{ordered_fixed}
 use Rattle.ji.proofs.nfd.order.Goals as goal
 
 pub returns-then-is_ordered : goal.returns-then-is_ordered
-returns-then-is_ordered c = sym (ordered-fixed unicode16 c.args.s.now (c.is_ordered.ensures.0 c.if-is_ordered.true))
+returns-then-is_ordered c = sym (ordered_fixed unicode16 c.args.s.now (c.is_ordered.ensures.0 c.if-is_ordered.true))

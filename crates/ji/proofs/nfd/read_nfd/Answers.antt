@@ -1,28 +1,28 @@
-use Rattle.ji.proofs.unicode.Reader.{spread-room}
+use Rattle.ji.proofs.unicode.Reader.{spread_room}
 use mathlib.Core.Bool.{true}
 use Rattle.ucd.specs.Unicode16.{unicode16}
-use Rattle.ji.proofs.Writing.{written-length}
-use Rattle.ji.proofs.Readings.{told, nfd-long, nfd-refused, nfd-ordered}
+use Rattle.ji.proofs.Writing.{written_length}
+use Rattle.ji.proofs.Readings.{told, nfd_long, nfd_refused, nfd_ordered}
 use native.Mathlib.Omega.{arith}
 use Rattle.ji.proofs.nfd.read_nfd.Goals as goal
 
 pub returns-then-text-gt256 : goal.returns-then-text-gt256
-returns-then-text-gt256 c = let a = c.args in nfd-long unicode16 a.text.now a.points.now a.points.now c.if-text-gt256.true
+returns-then-text-gt256 c = let a = c.args in nfd_long unicode16 a.text.now a.points.now a.points.now c.if-text-gt256.true
 
 pub slice_bounds-order-end : goal.slice_bounds-order-end
 slice_bounds-order-end c =
     let w = (told unicode16 _ _ _ true c.in-Points.is c.decode.ensures).2 in
-    omega (arith, w.fits, written-length w)
+    omega (arith, w.fits, written_length w)
 
 pub returns-in-Refused : goal.returns-in-Refused
 returns-in-Refused c =
     let a = c.args in
-    nfd-refused unicode16 a.text.now a.points.now _ c.if-text-gt256.false _ (told unicode16 _ _ _ true c.in-Refused.is c.decode.ensures)
+    nfd_refused unicode16 a.text.now a.points.now _ c.if-text-gt256.false _ (told unicode16 _ _ _ true c.in-Refused.is c.decode.ensures)
 
 pub returns-in-Points : goal.returns-in-Points
 returns-in-Points c =
     let a = c.args in
-    nfd-ordered unicode16 a.text.now a.points.now _ c.if-text-gt256.false _ _ (told unicode16 _ _ _ true c.in-Points.is c.decode.ensures) c.order.ensures
+    nfd_ordered unicode16 a.text.now a.points.now _ c.if-text-gt256.false _ _ (told unicode16 _ _ _ true c.in-Points.is c.decode.ensures) c.order.ensures
 
 pub decode-requires : goal.decode-requires
-decode-requires c = omega (arith, spread-room true c.args.text.now, c.requires)
+decode-requires c = omega (arith, spread_room true c.args.text.now, c.requires)

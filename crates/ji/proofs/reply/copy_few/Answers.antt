@@ -3,7 +3,7 @@ use mathlib.Core.List.{List, [], ◌∷◌}
 use Prim.Native.Nat.{ℕ, ◌+◌, ◌-◌, ◌/◌, ◌≤◌, ◌<◌}
 use lib.ListN.{length, get_or, set, length-set}
 use Rattle.ji.specs.Written.{Written, Covers}
-use Rattle.ji.proofs.Writing.{covers-one, covers-next, covers-all}
+use Rattle.ji.proofs.Writing.{covers_one, covers_next, covers_all}
 use native.Mathlib.Omega.{arith}
 use Rattle.ji.proofs.reply.copy_few.Goals as goal
 
@@ -24,27 +24,27 @@ module _ (s out : List ℕ) (some : 0 < length s) (few : length s < 4) (fits : l
   abbrev two : List ℕ
   two = set one middle (get_or s middle 0)
 
-  one-fits : length s ≤ length one
-  one-fits = omega (arith, length-set out 0 (get_or s 0 0))
+  one_fits : length s ≤ length one
+  one_fits = omega (arith, length-set out 0 (get_or s 0 0))
 
-  two-fits : length s ≤ length two
-  two-fits = omega (arith, one-fits, length-set one middle (get_or s middle 0))
+  two_fits : length s ≤ length two
+  two_fits = omega (arith, one_fits, length-set one middle (get_or s middle 0))
 
   covered : Written out (set two last (get_or s last 0)) (length s) s
   covered =
-      let first = covers-next (covers-one s out 0 some fits) (covers-one s one middle (omega arith) one-fits) (omega arith) in
-      let all = covers-next first (covers-one s two last (omega arith) two-fits) (omega arith) in
+      let first = covers_next (covers_one s out 0 some fits) (covers_one s one middle (omega arith) one_fits) (omega arith) in
+      let all = covers_next first (covers_one s two last (omega arith) two_fits) (omega arith) in
       let end : last + 1 ≡ length s = omega arith in
-      covers-all fits (subst (λ (to : ℕ). Covers s out (set two last (get_or s last 0)) 0 to) end all)
+      covers_all fits (subst (λ (to : ℕ). Covers s out (set two last (get_or s last 0)) 0 to) end all)
 
 pub returns-then-s-eq0 : goal.returns-then-s-eq0
 returns-then-s-eq0 c = none c.args.s.now c.args.out.now c.if-s-eq0.true
 
 pub bounds-out-middle : goal.bounds-out-middle
-bounds-out-middle c = let f = one-fits c.args.s.now c.args.out.now (omega (arith, c.if-s-eq0.false)) c.requires.0 c.requires.1 in omega (arith, f, c.if-s-eq0.false)
+bounds-out-middle c = let f = one_fits c.args.s.now c.args.out.now (omega (arith, c.if-s-eq0.false)) c.requires.0 c.requires.1 in omega (arith, f, c.if-s-eq0.false)
 
 pub bounds-out-last : goal.bounds-out-last
-bounds-out-last c = let f = two-fits c.args.s.now c.args.out.now (omega (arith, c.if-s-eq0.false)) c.requires.0 c.requires.1 in omega (arith, f, c.if-s-eq0.false)
+bounds-out-last c = let f = two_fits c.args.s.now c.args.out.now (omega (arith, c.if-s-eq0.false)) c.requires.0 c.requires.1 in omega (arith, f, c.if-s-eq0.false)
 
 pub returns : goal.returns
 returns c = covered c.args.s.now c.args.out.now (omega (arith, c.if-s-eq0.false)) c.requires.0 c.requires.1

@@ -3,7 +3,7 @@ use mathlib.Core.List.{List}
 use Prim.Native.Nat.{ℕ, ◌+◌, ◌≤◌}
 use lib.ListN.{length, get_or, set, length-set}
 use Rattle.ji.specs.Written.{Covers}
-use Rattle.ji.proofs.Writing.{covers-one, covers-next}
+use Rattle.ji.proofs.Writing.{covers_one, covers_next}
 use native.Mathlib.Omega.{arith}
 use Rattle.ji.proofs.reply.copy_four.Goals as goal
 
@@ -20,30 +20,30 @@ module _ (s out : List ℕ) (at : ℕ) (h : at + 4 ≤ length s) (fits : length 
   abbrev four : List ℕ
   four = set three (at + 3) (get_or s (at + 3) 0)
 
-  one-fits : length s ≤ length one
-  one-fits = omega (arith, length-set out at (get_or s at 0))
+  one_fits : length s ≤ length one
+  one_fits = omega (arith, length-set out at (get_or s at 0))
 
-  two-fits : length s ≤ length two
-  two-fits = omega (arith, one-fits, length-set one (at + 1) (get_or s (at + 1) 0))
+  two_fits : length s ≤ length two
+  two_fits = omega (arith, one_fits, length-set one (at + 1) (get_or s (at + 1) 0))
 
-  three-fits : length s ≤ length three
-  three-fits = omega (arith, two-fits, length-set two (at + 2) (get_or s (at + 2) 0))
+  three_fits : length s ≤ length three
+  three_fits = omega (arith, two_fits, length-set two (at + 2) (get_or s (at + 2) 0))
 
   covered : Covers s out four at (at + 4)
   covered =
-      let first = covers-next (covers-one s out at (omega arith) fits) (covers-one s one (at + 1) (omega arith) one-fits) (omega arith) in
-      let last = covers-next (covers-one s two (at + 2) (omega arith) two-fits) (covers-one s three (at + 3) (omega arith) three-fits) (omega arith) in
+      let first = covers_next (covers_one s out at (omega arith) fits) (covers_one s one (at + 1) (omega arith) one_fits) (omega arith) in
+      let last = covers_next (covers_one s two (at + 2) (omega arith) two_fits) (covers_one s three (at + 3) (omega arith) three_fits) (omega arith) in
       let end : at + 3 + 1 ≡ at + 4 = omega arith in
-      subst (λ (to : ℕ). Covers s out four at to) end (covers-next first last (omega arith))
+      subst (λ (to : ℕ). Covers s out four at to) end (covers_next first last (omega arith))
 
 pub bounds-out-at-2 : goal.bounds-out-at-2
-bounds-out-at-2 c = let f = one-fits c.args.s.now c.args.out.now c.args.at c.requires.0 c.requires.1 in let h = c.requires.0 in omega (arith, f, h)
+bounds-out-at-2 c = let f = one_fits c.args.s.now c.args.out.now c.args.at c.requires.0 c.requires.1 in let h = c.requires.0 in omega (arith, f, h)
 
 pub bounds-out-at-3 : goal.bounds-out-at-3
-bounds-out-at-3 c = let f = two-fits c.args.s.now c.args.out.now c.args.at c.requires.0 c.requires.1 in let h = c.requires.0 in omega (arith, f, h)
+bounds-out-at-3 c = let f = two_fits c.args.s.now c.args.out.now c.args.at c.requires.0 c.requires.1 in let h = c.requires.0 in omega (arith, f, h)
 
 pub bounds-out-at-4 : goal.bounds-out-at-4
-bounds-out-at-4 c = let f = three-fits c.args.s.now c.args.out.now c.args.at c.requires.0 c.requires.1 in let h = c.requires.0 in omega (arith, f, h)
+bounds-out-at-4 c = let f = three_fits c.args.s.now c.args.out.now c.args.at c.requires.0 c.requires.1 in let h = c.requires.0 in omega (arith, f, h)
 
 pub returns : goal.returns
 returns c = covered c.args.s.now c.args.out.now c.args.at c.requires.0 c.requires.1

@@ -3,9 +3,9 @@ use mathlib.Core.List.{List, ◌++◌, append_assoc}
 use Prim.Native.Nat.{ℕ, ◌+◌, ◌≤◌}
 use lib.ListN.{length, length-append}
 use Rattle.ji.specs.Written.{Written}
-use Rattle.ji.specs.Utf8.{bytesOf}
-use Rattle.ji.proofs.Replies.{placed-not, placed-written}
-use Rattle.ji.proofs.Writing.{written-run, written-behind}
+use Rattle.ji.specs.Utf8.{bytes_of}
+use Rattle.ji.proofs.Replies.{placed_not, placed_written}
+use Rattle.ji.proofs.Writing.{written_run, written_behind}
 use native.Mathlib.Omega.{arith}
 use Rattle.ji.proofs.reply.place_between.Goals as goal
 use Rattle.ji.proofs.reply.place_between.Goals.{After-byte_count-size}
@@ -13,26 +13,26 @@ use Rattle.ji.proofs.reply.place_between.Goals.{After-byte_count-size}
 -- the whole text, and its length
 module _ (c : After-byte_count-size) where
   abbrev text : List ℕ
-  text = c.args.before.now ++ (bytesOf c.args.x ++ c.args.after.now)
+  text = c.args.before.now ++ (bytes_of c.args.x ++ c.args.after.now)
 
-  text-length : length text ≡ length c.args.before.now + (c.byte_count-size.result + length c.args.after.now)
-  text-length =
+  text_length : length text ≡ length c.args.before.now + (c.byte_count-size.result + length c.args.after.now)
+  text_length =
       let a = c.args in
-      omega (arith, length-append a.before.now (bytesOf a.x ++ a.after.now), length-append (bytesOf a.x) a.after.now, c.byte_count-size.ensures.0)
+      omega (arith, length-append a.before.now (bytes_of a.x ++ a.after.now), length-append (bytes_of a.x) a.after.now, c.byte_count-size.ensures.0)
 
 pub returns-then-out-before : goal.returns-then-out-before
-returns-then-out-before c = placed-not 0 (text (goal.at.returns-then-out-before c).After-byte_count-size) c.args.out.now (omega (arith, text-length (goal.at.returns-then-out-before c).After-byte_count-size, c.if-out-before.true))
+returns-then-out-before c = placed_not 0 (text (goal.at.returns-then-out-before c).After-byte_count-size) c.args.out.now (omega (arith, text_length (goal.at.returns-then-out-before c).After-byte_count-size, c.if-out-before.true))
 
 pub returns-then-left-size : goal.returns-then-left-size
-returns-then-left-size c = placed-not 0 (text (goal.at.returns-then-left-size c).After-byte_count-size) c.args.out.now (omega (arith, text-length (goal.at.returns-then-left-size c).After-byte_count-size, c.if-left-size.true, c.if-out-before.false))
+returns-then-left-size c = placed_not 0 (text (goal.at.returns-then-left-size c).After-byte_count-size) c.args.out.now (omega (arith, text_length (goal.at.returns-then-left-size c).After-byte_count-size, c.if-left-size.true, c.if-out-before.false))
 
 pub returns-then-left-size-2 : goal.returns-then-left-size-2
 returns-then-left-size-2 c =
-    placed-not 0 (text (goal.at.returns-then-left-size-2 c).After-byte_count-size) c.args.out.now (omega (arith, text-length (goal.at.returns-then-left-size-2 c).After-byte_count-size, c.if-left-size-2.true, c.if-left-size.false, c.if-out-before.false))
+    placed_not 0 (text (goal.at.returns-then-left-size-2 c).After-byte_count-size) c.args.out.now (omega (arith, text_length (goal.at.returns-then-left-size-2 c).After-byte_count-size, c.if-left-size-2.true, c.if-left-size.false, c.if-out-before.false))
 
 pub returns : goal.returns
 returns c =
     let a = c.args in
-    let room : length a.before.now + length (bytesOf a.x) ≤ length a.out.now = omega (arith, c.byte_count-size.ensures.0, c.if-left-size.false, c.if-out-before.false) in
-    let w : Written a.out.now c.put_point-at.new.out c.put_point-at.result (a.before.now ++ bytesOf a.x) = rw (c.put_point-at.ensures.0, c.put_point-at.ensures.1) (written-run c.copy.ensures (bytesOf a.x) room) in
-    placed-written 0 (text (goal.at.returns c).After-byte_count-size) a.out.now _ _ (rw (← append_assoc a.before.now (bytesOf a.x) a.after.now) (written-behind w c.copy-2.ensures))
+    let room : length a.before.now + length (bytes_of a.x) ≤ length a.out.now = omega (arith, c.byte_count-size.ensures.0, c.if-left-size.false, c.if-out-before.false) in
+    let w : Written a.out.now c.put_point-at.new.out c.put_point-at.result (a.before.now ++ bytes_of a.x) = rw (c.put_point-at.ensures.0, c.put_point-at.ensures.1) (written_run c.copy.ensures (bytes_of a.x) room) in
+    placed_written 0 (text (goal.at.returns c).After-byte_count-size) a.out.now _ _ (rw (← append_assoc a.before.now (bytes_of a.x) a.after.now) (written_behind w c.copy-2.ensures))

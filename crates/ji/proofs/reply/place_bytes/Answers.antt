@@ -1,8 +1,8 @@
-use Rattle.ji.proofs.Replies.{placed-not, placed-written}
+use Rattle.ji.proofs.Replies.{placed_not, placed_written}
 use Rattle.ji.proofs.reply.place_bytes.Goals as goal
 
 pub returns-then-out-s : goal.returns-then-out-s
-returns-then-out-s c = let a = c.args in placed-not 0 a.s.now a.out.now c.if-out-s.true
+returns-then-out-s c = let a = c.args in placed_not 0 a.s.now a.out.now c.if-out-s.true
 
 pub returns : goal.returns
-returns c = let a = c.args in placed-written 0 a.s.now a.out.now _ _ c.copy.ensures
+returns c = let a = c.args in placed_written 0 a.s.now a.out.now _ _ c.copy.ensures

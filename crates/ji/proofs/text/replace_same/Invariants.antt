@@ -2,12 +2,12 @@
 -- the text is as it was.
 use Prim.Native.Nat.{◌-◌}
 use lib.ListN.{length}
-use Rattle.ji.specs.Text.{replaceAll}
+use Rattle.ji.specs.Text.{replace_all}
 use Rattle.ji.proofs.Underway.{Underway}
 use Rattle.ji.proofs.text.replace_same.Given as goal
 
 abbrev pub invariant-loop-i : goal.invariant-loop-i
-invariant-loop-i l = Underway (replaceAll l.pattern l.by) l.initial.s l.initial.s l.s l.i l.i
+invariant-loop-i l = Underway (replace_all l.pattern l.by) l.initial.s l.initial.s l.s l.i l.i
 
 abbrev pub decreases-loop-i : goal.decreases-loop-i
 decreases-loop-i l = length l.initial.s - l.i

@@ -5,41 +5,41 @@ use Prim.Native.Nat.{ℕ, ◌+◌, ◌≤◌, ◌<◌}
 use lib.ListN.{length, drop, get_or, length-append}
 use Rattle.ucd.specs.Table.{member}
 use Rattle.ucd.specs.Unicode16.{unicode16}
-use Rattle.ji.specs.Utf8.{widthAt, pointAt, ReadOf}
+use Rattle.ji.specs.Utf8.{width_at, point_at, ReadOf}
 use Rattle.ji.specs.Unicode.{accepted}
-use Rattle.ji.proofs.utf8.Decoding.{width-most}
-use Rattle.ji.proofs.unicode.Laws.{accepted-end}
-use Rattle.ji.proofs.unicode.Reader.{taken-start, taken-end, taken-all, taken-ill, taken-outside, taken-more}
+use Rattle.ji.proofs.utf8.Decoding.{width_most}
+use Rattle.ji.proofs.unicode.Laws.{accepted_end}
+use Rattle.ji.proofs.unicode.Reader.{taken_start, taken_end, taken_all, taken_ill, taken_outside, taken_more}
 use native.Mathlib.Omega.{arith}
-use Rattle.ji.proofs.utf8.Laws.{read-one}
-use Rattle.ji.proofs.unicode.Ascii.{ascii-member}
+use Rattle.ji.proofs.utf8.Laws.{read_one}
+use Rattle.ji.proofs.unicode.Ascii.{ascii_member}
 use Rattle.ji.proofs.unicode.count_points.Invariants.{Counted}
 use Rattle.ji.proofs.unicode.count_points.Goals as goal
 
 -- a turn that reads a sequence of width w and code point p
 module _ (s : List ℕ) (i w p : ℕ) (q : ReadOf (drop i s) w p) (some : w ≡ 0 → ⊥) where
-  positive : 0 < widthAt (drop i s)
+  positive : 0 < width_at (drop i s)
   positive = omega (arith, q.wide, some)
 
   step : w ≤ 4
-  step = omega (arith, q.wide, width-most (drop i s))
+  step = omega (arith, q.wide, width_most (drop i s))
 
-  told : (b : Bool) → b ≡ member unicode16 p → member unicode16 (pointAt (drop i s)) ≡ b
+  told : (b : Bool) → b ≡ member unicode16 p → member unicode16 (point_at (drop i s)) ≡ b
   told b e = ap (member unicode16) (sym (q.read (omega (arith, some)))) ∙ sym e
 
 pub loop-i-init : goal.loop-i-init
-loop-i-init c = let a = c.args in ([], taken-start unicode16 a.s.now, refl, omega arith)
+loop-i-init c = let a = c.args in ([], taken_start unicode16 a.s.now, refl, omega arith)
 
 pub returns-then-width-eq0 : goal.returns-then-width-eq0
 returns-then-width-eq0 c =
     let l = c.loop-i in
-    taken-ill unicode16 c.args.s.now l.invariant.0 l.i l.invariant.1 c.loop-i-test.true (sym c.read-sequence.ensures.wide ∙ c.if-width-eq0.true)
+    taken_ill unicode16 c.args.s.now l.invariant.0 l.i l.invariant.1 c.loop-i-test.true (sym c.read-sequence.ensures.wide ∙ c.if-width-eq0.true)
 
-one-more : (s : List ℕ) (i n w p : ℕ) (taken : Counted s i n) → i < length s → ReadOf (drop i s) w p → (w ≡ 0 → ⊥) → member unicode16 p ≡ true → Counted s (i + w) (n + 1)
-one-more s i n w p (u, taken, size, few) h q some m = (
-  u ++ (pointAt (drop i s) ∷ []),
-  rw q.wide (taken-more unicode16 s u i taken h (positive s i w p q some) (told s i w p q some true (sym m))),
-  omega (arith, size, length-append u (pointAt (drop i s) ∷ [])),
+one_more : (s : List ℕ) (i n w p : ℕ) (taken : Counted s i n) → i < length s → ReadOf (drop i s) w p → (w ≡ 0 → ⊥) → member unicode16 p ≡ true → Counted s (i + w) (n + 1)
+one_more s i n w p (u, taken, size, few) h q some m = (
+  u ++ (point_at (drop i s) ∷ []),
+  rw q.wide (taken_more unicode16 s u i taken h (positive s i w p q some) (told s i w p q some true (sym m))),
+  omega (arith, size, length-append u (point_at (drop i s) ∷ [])),
   omega (arith, few, some),
 )
 
@@ -48,7 +48,7 @@ loop-i-preserved-then-s-i-lt128 c =
     let l = c.loop-i in
     let low = c.if-s-i-lt128.true in
     let s = c.args.s.now in
-    one-more s l.i l.n 1 (get_or s l.i 0) l.invariant c.loop-i-test.true (read-one s l.i c.loop-i-test.true (omega arith)) (λ z. omega arith) (ascii-member (get_or s l.i 0) low)
+    one_more s l.i l.n 1 (get_or s l.i 0) l.invariant c.loop-i-test.true (read_one s l.i c.loop-i-test.true (omega arith)) (λ z. omega arith) (ascii_member (get_or s l.i 0) low)
 
 pub overflow_add-i-then-is_member : goal.overflow_add-i-then-is_member
 overflow_add-i-then-is_member c =
@@ -66,7 +66,7 @@ loop-i-smaller c = let k = c.if-width-eq0.false in omega arith
 
 pub loop-i-preserved : goal.loop-i-preserved
 loop-i-preserved c =
-    one-more c.args.s.now c.loop-i.i c.loop-i.n _ _ c.loop-i.invariant c.loop-i-test.true c.read-sequence.ensures c.if-width-eq0.false (sym c.is_member.ensures ∙ c.if-is_member.true)
+    one_more c.args.s.now c.loop-i.i c.loop-i.n _ _ c.loop-i.invariant c.loop-i-test.true c.read-sequence.ensures c.if-width-eq0.false (sym c.is_member.ensures ∙ c.if-is_member.true)
 
 pub returns-else-is_member : goal.returns-else-is_member
 returns-else-is_member c =
@@ -75,13 +75,13 @@ returns-else-is_member c =
     let r = c.read-sequence.ensures in
     let some = c.if-width-eq0.false in
     rw c.fault_at.ensures
-    (taken-outside unicode16 s l.invariant.0 l.i l.invariant.1 c.loop-i-test.true (positive s l.i _ _ r some) (told s l.i _ _ r some false (sym c.if-is_member.false ∙ c.is_member.ensures)))
+    (taken_outside unicode16 s l.invariant.0 l.i l.invariant.1 c.loop-i-test.true (positive s l.i _ _ r some) (told s l.i _ _ r some false (sym c.if-is_member.false ∙ c.is_member.ensures)))
 
 pub returns : goal.returns
 returns c =
     let a = c.args in
     let l = c.loop-i in
-    let good-text = taken-end unicode16 a.s.now l.invariant.0 l.i l.invariant.1 c.loop-i-test.false in
+    let good-text = taken_end unicode16 a.s.now l.invariant.0 l.i l.invariant.1 c.loop-i-test.false in
     let all : accepted unicode16 a.s.now ≡ l.invariant.0 =
-    taken-all unicode16 a.s.now l.invariant.0 l.i l.invariant.1 (accepted-end unicode16 a.s.now l.i c.loop-i-test.false) in
+    taken_all unicode16 a.s.now l.invariant.0 l.i l.invariant.1 (accepted_end unicode16 a.s.now l.i c.loop-i-test.false) in
     (l.invariant.0, good-text, all, sym l.invariant.2)

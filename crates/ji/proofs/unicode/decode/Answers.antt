@@ -7,69 +7,69 @@ use lib.Dec.{T}
 use lib.Seq.{paste}
 use Rattle.ucd.specs.Table.{member}
 use Rattle.ucd.specs.Unicode16.{unicode16}
-use Rattle.ucd.proofs.Unicode16.{member-below}
-use Rattle.ji.specs.Utf8.{widthAt, pointAt, ReadOf, decode}
+use Rattle.ucd.proofs.Unicode16.{member_below}
+use Rattle.ji.specs.Utf8.{width_at, point_at, ReadOf, decode}
 use Rattle.ji.specs.Unicode.{accepted, spread}
-use Rattle.ji.specs.Reading.{spreadText, faultIn, Reading}
+use Rattle.ji.specs.Reading.{spread_text, fault_in, Reading}
 use Rattle.ji.specs.declared.unicode.Spread.{Spread}
 use Rattle.ji.specs.declared.unicode.Decoded.TheVariants.{Refused}
-use Rattle.ji.proofs.Writing.{written-length}
-use Rattle.ji.proofs.utf8.Decoding.{width-most}
-use Rattle.ji.proofs.unicode.Reader.{Read, read-start, read-end, read-ill, read-outside, read-room, read-more}
+use Rattle.ji.proofs.Writing.{written_length}
+use Rattle.ji.proofs.utf8.Decoding.{width_most}
+use Rattle.ji.proofs.unicode.Reader.{Read, read_start, read_end, read_ill, read_outside, read_room, read_more}
 use native.Mathlib.Omega.{arith}
 use Rattle.ji.specs.declared.unicode.Spread.TheVariants.{One}
-use Rattle.ji.proofs.utf8.Laws.{read-one}
-use Rattle.ji.proofs.unicode.Laws.{spread-itself}
-use Rattle.ji.proofs.unicode.Ascii.{ascii-member}
+use Rattle.ji.proofs.utf8.Laws.{read_one}
+use Rattle.ji.proofs.unicode.Laws.{spread_itself}
+use Rattle.ji.proofs.unicode.Ascii.{ascii_member}
 use Rattle.ji.proofs.unicode.decode.Goals as goal
 
 -- a turn that reads a sequence of width w and code point p
 module _ (d : Bool) (s before out : List ℕ) (i n w p : ℕ) (r : Read unicode16 d s before out i n) (h : i < length s) (q : ReadOf (drop i s) w p) (some : w ≡ 0 → ⊥) where
-  wide : w ≡ widthAt (drop i s)
+  wide : w ≡ width_at (drop i s)
   wide = q.wide
 
-  positive : 0 < widthAt (drop i s)
+  positive : 0 < width_at (drop i s)
   positive = omega (arith, wide, some)
 
-  point : p ≡ pointAt (drop i s)
+  point : p ≡ point_at (drop i s)
   point = q.read (omega (arith, some))
 
   step : w ≤ 4
-  step = omega (arith, wide, width-most (drop i s))
+  step = omega (arith, wide, width_most (drop i s))
 
   -- outside the table
-  returns-outside : false ≡ member unicode16 p → Reading unicode16 d s before out (Refused (faultIn (decode (drop i s))))
-  returns-outside m = read-outside unicode16 d s before out i n r h positive (ap (member unicode16) (sym point) ∙ sym m)
+  returns_outside : false ≡ member unicode16 p → Reading unicode16 d s before out (Refused (fault_in (decode (drop i s))))
+  returns_outside m = read_outside unicode16 d s before out i n r h positive (ap (member unicode16) (sym point) ∙ sym m)
 
   -- in the table
   module _ (m : true ≡ member unicode16 p) where
-    inside : member unicode16 (pointAt (drop i s)) ≡ true
+    inside : member unicode16 (point_at (drop i s)) ≡ true
     inside = ap (member unicode16) (sym point) ∙ sym m
 
     low : p < 0xD800
-    low = member-below p (subst T m tt)
+    low = member_below p (subst T m tt)
 
-    module _ (x : Spread) (e : spreadText x ≡ spread unicode16 d (p ∷ [])) (room : length (spread unicode16 d (accepted unicode16 s)) ≤ length before) where
-      same-text : spread unicode16 d (pointAt (drop i s) ∷ []) ≡ spreadText x
-      same-text = ap (λ (k : ℕ). spread unicode16 d (k ∷ [])) (sym point) ∙ sym e
+    module _ (x : Spread) (e : spread_text x ≡ spread unicode16 d (p ∷ [])) (room : length (spread unicode16 d (accepted unicode16 s)) ≤ length before) where
+      same_text : spread unicode16 d (point_at (drop i s) ∷ []) ≡ spread_text x
+      same_text = ap (λ (k : ℕ). spread unicode16 d (k ∷ [])) (sym point) ∙ sym e
 
-      enough : n + length (spread unicode16 d (pointAt (drop i s) ∷ [])) ≤ length before
-      enough = read-room unicode16 d s before out i n r h positive inside room
+      enough : n + length (spread unicode16 d (point_at (drop i s) ∷ [])) ≤ length before
+      enough = read_room unicode16 d s before out i n r h positive inside room
 
-      room-left : n + length (spreadText x) ≤ length out
-      room-left = rw (written-length r.written, ← same-text) enough
+      room_left : n + length (spread_text x) ≤ length out
+      room_left = rw (written_length r.written, ← same_text) enough
 
-      again : (m' : ℕ) (out' : List ℕ) → m' ≡ n + length (spreadText x) → out' ≡ paste out n (spreadText x) (length (spreadText x)) → Read unicode16 d s before out' (i + w) m'
+      again : (m' : ℕ) (out' : List ℕ) → m' ≡ n + length (spread_text x) → out' ≡ paste out n (spread_text x) (length (spread_text x)) → Read unicode16 d s before out' (i + w) m'
       again m' out' em eo =
-          rw (em, eo, wide, ← same-text) (read-more unicode16 d s before out i n r h positive inside enough)
+          rw (em, eo, wide, ← same_text) (read_more unicode16 d s before out i n r h positive inside enough)
 
 pub loop-i-init : goal.loop-i-init
-loop-i-init c = let a = c.args in read-start unicode16 a.decomposed a.s.now a.out.now
+loop-i-init c = let a = c.args in read_start unicode16 a.decomposed a.s.now a.out.now
 
 pub returns-then-width-eq0 : goal.returns-then-width-eq0
 returns-then-width-eq0 c =
     let a = c.args in
-    read-ill unicode16 a.decomposed a.s.now a.out.now c.loop-i.out c.loop-i.i c.loop-i.n c.loop-i.invariant c.loop-i-test.true (sym c.read-sequence.ensures.wide ∙ c.if-width-eq0.true)
+    read_ill unicode16 a.decomposed a.s.now a.out.now c.loop-i.out c.loop-i.i c.loop-i.n c.loop-i.invariant c.loop-i-test.true (sym c.read-sequence.ensures.wide ∙ c.if-width-eq0.true)
 
 pub overflow_cast-point : goal.overflow_cast-point
 overflow_cast-point c =
@@ -81,18 +81,18 @@ pub put-n-requires : goal.put-n-requires
 put-n-requires c =
     let x = c.args in
     let low = c.if-a-lt128.true in
-    room-left x.decomposed x.s.now x.out.now c.loop-i.out c.loop-i.i c.loop-i.n 1 (get_or x.s.now c.loop-i.i 0) c.loop-i.invariant c.loop-i-test.true (read-one x.s.now c.loop-i.i c.loop-i-test.true (omega arith)) (λ z. omega arith) (sym (ascii-member _ low)) (One (get_or x.s.now c.loop-i.i 0)) (sym (spread-itself x.decomposed _ (omega arith))) c.requires
+    room_left x.decomposed x.s.now x.out.now c.loop-i.out c.loop-i.i c.loop-i.n 1 (get_or x.s.now c.loop-i.i 0) c.loop-i.invariant c.loop-i-test.true (read_one x.s.now c.loop-i.i c.loop-i-test.true (omega arith)) (λ z. omega arith) (sym (ascii_member _ low)) (One (get_or x.s.now c.loop-i.i 0)) (sym (spread_itself x.decomposed _ (omega arith))) c.requires
 
 pub loop-i-preserved-then-a-lt128 : goal.loop-i-preserved-then-a-lt128
 loop-i-preserved-then-a-lt128 c =
     let x = c.args in
     let low = c.if-a-lt128.true in
-    again x.decomposed x.s.now x.out.now c.loop-i.out c.loop-i.i c.loop-i.n 1 (get_or x.s.now c.loop-i.i 0) c.loop-i.invariant c.loop-i-test.true (read-one x.s.now c.loop-i.i c.loop-i-test.true (omega arith)) (λ z. omega arith) (sym (ascii-member _ low)) (One (get_or x.s.now c.loop-i.i 0)) (sym (spread-itself x.decomposed _ (omega arith))) c.requires c.put-n.result c.put-n.new.out c.put-n.ensures.0 c.put-n.ensures.1
+    again x.decomposed x.s.now x.out.now c.loop-i.out c.loop-i.i c.loop-i.n 1 (get_or x.s.now c.loop-i.i 0) c.loop-i.invariant c.loop-i-test.true (read_one x.s.now c.loop-i.i c.loop-i-test.true (omega arith)) (λ z. omega arith) (sym (ascii_member _ low)) (One (get_or x.s.now c.loop-i.i 0)) (sym (spread_itself x.decomposed _ (omega arith))) c.requires c.put-n.result c.put-n.new.out c.put-n.ensures.0 c.put-n.ensures.1
 
 pub put-n-requires-then-is_member : goal.put-n-requires-then-is_member
 put-n-requires-then-is_member c =
     let x = c.args in
-    room-left x.decomposed x.s.now x.out.now c.loop-i.out c.loop-i.i c.loop-i.n _ _ c.loop-i.invariant c.loop-i-test.true c.read-sequence.ensures c.if-width-eq0.false (sym c.if-is_member.true ∙ c.is_member.ensures) c.spread_point.result c.spread_point.ensures c.requires
+    room_left x.decomposed x.s.now x.out.now c.loop-i.out c.loop-i.i c.loop-i.n _ _ c.loop-i.invariant c.loop-i-test.true c.read-sequence.ensures c.if-width-eq0.false (sym c.if-is_member.true ∙ c.is_member.ensures) c.spread_point.result c.spread_point.ensures c.requires
 
 pub overflow_add-i-then-is_member : goal.overflow_add-i-then-is_member
 overflow_add-i-then-is_member c =
@@ -114,9 +114,9 @@ pub returns-else-is_member : goal.returns-else-is_member
 returns-else-is_member c =
     let x = c.args in
     rw c.fault_at.ensures
-    (returns-outside x.decomposed x.s.now x.out.now c.loop-i.out c.loop-i.i c.loop-i.n _ _ c.loop-i.invariant c.loop-i-test.true c.read-sequence.ensures c.if-width-eq0.false (sym c.if-is_member.false ∙ c.is_member.ensures))
+    (returns_outside x.decomposed x.s.now x.out.now c.loop-i.out c.loop-i.i c.loop-i.n _ _ c.loop-i.invariant c.loop-i-test.true c.read-sequence.ensures c.if-width-eq0.false (sym c.if-is_member.false ∙ c.is_member.ensures))
 
 pub returns : goal.returns
 returns c =
     let x = c.args in
-    read-end unicode16 x.decomposed x.s.now x.out.now c.loop-i.out c.loop-i.i c.loop-i.n c.loop-i.invariant c.loop-i-test.false
+    read_end unicode16 x.decomposed x.s.now x.out.now c.loop-i.out c.loop-i.i c.loop-i.n c.loop-i.invariant c.loop-i-test.false

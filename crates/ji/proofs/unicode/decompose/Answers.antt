@@ -5,40 +5,40 @@ use Prim.Native.Nat.{ℕ, ◌+◌, ◌≤◌, ◌<◌}
 use lib.ListN.{length, drop, get_or, drop_of_length-le}
 use Rattle.ucd.specs.Full.{full}
 use Rattle.ucd.specs.Unicode16.{unicode16}
-use Rattle.ucd.proofs.Unicode16.{full-length}
+use Rattle.ucd.proofs.Unicode16.{full_length}
 use Rattle.ji.specs.Unicode.{spread}
-use Rattle.ji.specs.Reading.{spreadText}
+use Rattle.ji.specs.Reading.{spread_text}
 use Rattle.ji.specs.declared.unicode.Spread.{Spread}
-use Rattle.ji.proofs.Writing.{written-length}
-use Rattle.ji.proofs.Underway.{underway-start, underway-run, underway-end}
-use Rattle.ji.proofs.Decomposition.{full-nil, full-append}
-use Rattle.ji.proofs.text.Laws.{drop-next}
-use Rattle.ji.proofs.unicode.Laws.{spread-full}
+use Rattle.ji.proofs.Writing.{written_length}
+use Rattle.ji.proofs.Underway.{underway_start, underway_run, underway_end}
+use Rattle.ji.proofs.Decomposition.{full_nil, full_append}
+use Rattle.ji.proofs.text.Laws.{drop_next}
+use Rattle.ji.proofs.unicode.Laws.{spread_full}
 use native.Mathlib.Omega.{arith}
 use Rattle.ji.proofs.unicode.decompose.Goals as goal
 
 ended : (s : List ℕ) (i : ℕ) → length s ≤ i → full unicode16 (drop i s) ≡ []
-ended s i h = ap (full unicode16) (drop_of_length-le s h) ∙ full-nil unicode16
+ended s i h = ap (full unicode16) (drop_of_length-le s h) ∙ full_nil unicode16
 
 -- the next piece
-module _ (s : List ℕ) (i : ℕ) (h : i < length s) (x : Spread) (e : spreadText x ≡ spread unicode16 true (get_or s i 0 ∷ [])) where
-  text : spreadText x ≡ full unicode16 (get_or s i 0 ∷ [])
-  text = e ∙ spread-full unicode16 (get_or s i 0 ∷ [])
+module _ (s : List ℕ) (i : ℕ) (h : i < length s) (x : Spread) (e : spread_text x ≡ spread unicode16 true (get_or s i 0 ∷ [])) where
+  text : spread_text x ≡ full unicode16 (get_or s i 0 ∷ [])
+  text = e ∙ spread_full unicode16 (get_or s i 0 ∷ [])
 
-  few : length (spreadText x) ≤ 3
-  few = rw text (full-length (get_or s i 0))
+  few : length (spread_text x) ≤ 3
+  few = rw text (full_length (get_or s i 0))
 
-  piece : full unicode16 (drop i s) ≡ spreadText x ++ full unicode16 (drop (i + 1) s)
-  piece = ap (full unicode16) (drop-next s i h) ∙ full-append unicode16 (get_or s i 0 ∷ []) (drop (i + 1) s) ∙ ap (λ (u : List ℕ). u ++ full unicode16 (drop (i + 1) s)) (sym text)
+  piece : full unicode16 (drop i s) ≡ spread_text x ++ full unicode16 (drop (i + 1) s)
+  piece = ap (full unicode16) (drop_next s i h) ∙ full_append unicode16 (get_or s i 0 ∷ []) (drop (i + 1) s) ∙ ap (λ (u : List ℕ). u ++ full unicode16 (drop (i + 1) s)) (sym text)
 
 pub loop-i-init : goal.loop-i-init
-loop-i-init c = let a = c.args in (underway-start (full unicode16) a.s.now a.out.now, omega arith)
+loop-i-init c = let a = c.args in (underway_start (full unicode16) a.s.now a.out.now, omega arith)
 
 pub put-n-requires : goal.put-n-requires
 put-n-requires c =
     let l = c.loop-i in
     let h = few c.args.s.now l.i c.loop-i-test.true c.spread_point.result c.spread_point.ensures in
-    let w = written-length l.invariant.0.written in
+    let w = written_length l.invariant.0.written in
     omega arith
 
 pub loop-i-preserved : goal.loop-i-preserved
@@ -49,11 +49,11 @@ loop-i-preserved c =
     let more = c.loop-i-test.true in
     let h = few a.s.now l.i more x.result x.ensures in
     let q = c.put-n in (
-      rw (q.ensures.0, q.ensures.1) (underway-run l.invariant.0 (l.i + 1) (spreadText x.result) (piece a.s.now l.i more x.result x.ensures) (omega arith) (omega arith)),
+      rw (q.ensures.0, q.ensures.1) (underway_run l.invariant.0 (l.i + 1) (spread_text x.result) (piece a.s.now l.i more x.result x.ensures) (omega arith) (omega arith)),
       omega (arith, q.ensures.0),
     )
 
 pub returns : goal.returns
 returns c =
     let a = c.args in
-    underway-end c.loop-i.invariant.0 (ended a.s.now c.loop-i.i c.loop-i-test.false)
+    underway_end c.loop-i.invariant.0 (ended a.s.now c.loop-i.i c.loop-i-test.false)

@@ -7,19 +7,19 @@ use mathlib.Core.List.{List}
 use Prim.Native.Nat.{ℕ, ◌+◌, ◌<◌}
 use borrow.Author.Tests.{le-leb, lt-leb}
 use lib.ListN.{length, drop, get_or, drop_of_length-le}
-use Rattle.ji.specs.Text.{allAscii}
-use Rattle.ji.proofs.Bools.{and-yes, and-no}
-use Rattle.ji.proofs.text.Laws.{drop-next}
+use Rattle.ji.specs.Text.{all_ascii}
+use Rattle.ji.proofs.Bools.{and_yes, and_no}
+use Rattle.ji.proofs.text.Laws.{drop_next}
 use native.Mathlib.Omega.{arith}
 use Rattle.ji.proofs.unicode.is_ascii.Goals as goal
 
-here : (s : List ℕ) (i : ℕ) → i < length s → allAscii (drop i s) ≡ (leb (get_or s i 0) 0x7F && allAscii (drop (i + 1) s))
-unfolding allAscii
-here s i h = ap allAscii (drop-next s i h)
+here : (s : List ℕ) (i : ℕ) → i < length s → all_ascii (drop i s) ≡ (leb (get_or s i 0) 0x7F && all_ascii (drop (i + 1) s))
+unfolding all_ascii
+here s i h = ap all_ascii (drop_next s i h)
 
-none-left : allAscii [] ≡ true
-unfolding allAscii
-none-left = refl
+none_left : all_ascii [] ≡ true
+unfolding all_ascii
+none_left = refl
 
 pub loop-i-init : goal.loop-i-init
 loop-i-init c = refl
@@ -28,16 +28,16 @@ pub returns-then-s-i-gt127 : goal.returns-then-s-i-gt127
 returns-then-s-i-gt127 c =
     let a = c.args in
     let l = c.loop-i in
-    sym (l.invariant ∙ here a.s.now l.i c.loop-i-test.true ∙ and-no _ _ (lt-leb (get_or a.s.now l.i 0) 0x7F c.if-s-i-gt127.true))
+    sym (l.invariant ∙ here a.s.now l.i c.loop-i-test.true ∙ and_no _ _ (lt-leb (get_or a.s.now l.i 0) 0x7F c.if-s-i-gt127.true))
 
 pub loop-i-preserved : goal.loop-i-preserved
 loop-i-preserved c =
     let a = c.args in
     let l = c.loop-i in
-    l.invariant ∙ here a.s.now l.i c.loop-i-test.true ∙ and-yes _ _ (le-leb (get_or a.s.now l.i 0) 0x7F (omega (arith, c.if-s-i-gt127.false)))
+    l.invariant ∙ here a.s.now l.i c.loop-i-test.true ∙ and_yes _ _ (le-leb (get_or a.s.now l.i 0) 0x7F (omega (arith, c.if-s-i-gt127.false)))
 
 pub returns : goal.returns
 returns c =
     let a = c.args in
     let l = c.loop-i in
-    sym (l.invariant ∙ ap allAscii (drop_of_length-le a.s.now {i = l.i} c.loop-i-test.false) ∙ none-left)
+    sym (l.invariant ∙ ap all_ascii (drop_of_length-le a.s.now {i = l.i} c.loop-i-test.false) ∙ none_left)

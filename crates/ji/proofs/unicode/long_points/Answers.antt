@@ -4,8 +4,8 @@ use native.Mathlib.Omega.{arith}
 use lib.ListN.{length}
 use Rattle.ucd.specs.Unicode16.{unicode16}
 use Rattle.ji.specs.Unicode.{accepted}
-use Rattle.ji.proofs.Replies.{placed-not}
-use Rattle.ji.proofs.unicode.Laws.{spread-plain}
+use Rattle.ji.proofs.Replies.{placed_not}
+use Rattle.ji.proofs.unicode.Laws.{spread_plain}
 use Rattle.ji.proofs.unicode.Replied.{counted, reply, read}
 use Rattle.ji.proofs.unicode.long_points.Goals as goal
 
@@ -16,13 +16,13 @@ pub returns-then-out-len : goal.returns-then-out-len
 returns-then-out-len c =
     let s = c.args.text.now in
     let k = counted s c.in-Points.is c.count_points.ensures in
-    placed-not 0 k.0 c.args.out.now (omega (arith, k.3)) ∙ reply s k.1 c.args.out.now
+    placed_not 0 k.0 c.args.out.now (omega (arith, k.3)) ∙ reply s k.1 c.args.out.now
 
 pub decode-requires : goal.decode-requires
 decode-requires c =
     let s = c.args.text.now in
     let k = counted s c.in-Points.is c.count_points.ensures in
-    omega (arith, k.3, ap length (spread-plain unicode16 (accepted unicode16 s) ∙ k.2))
+    omega (arith, k.3, ap length (spread_plain unicode16 (accepted unicode16 s) ∙ k.2))
 
 pub returns-else-out-len : goal.returns-else-out-len
 returns-else-out-len c =

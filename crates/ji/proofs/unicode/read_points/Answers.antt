@@ -2,16 +2,16 @@
 use mathlib.Core.Bool.{false}
 use mathlib.Core.Path.{sym, ◌∙◌}
 use Rattle.ucd.specs.Unicode16.{unicode16}
-use Rattle.ji.proofs.unicode.Ascii.{ascii-good}
-use Rattle.ji.proofs.unicode.Laws.{spread-plain}
-use Rattle.ji.proofs.unicode.Reader.{spread-room}
+use Rattle.ji.proofs.unicode.Ascii.{ascii_good}
+use Rattle.ji.proofs.unicode.Laws.{spread_plain}
+use Rattle.ji.proofs.unicode.Reader.{spread_room}
 use native.Mathlib.Omega.{arith}
 use Rattle.ji.proofs.unicode.read_points.Goals as goal
 
 pub returns-then-is_ascii : goal.returns-then-is_ascii
 returns-then-is_ascii c =
     let s = c.args.text.now in
-    (s, ascii-good s (sym c.is_ascii.ensures ∙ c.if-is_ascii.true), rw (spread-plain unicode16 s) c.widen.ensures)
+    (s, ascii_good s (sym c.is_ascii.ensures ∙ c.if-is_ascii.true), rw (spread_plain unicode16 s) c.widen.ensures)
 
 pub decode-requires : goal.decode-requires
-decode-requires c = omega (arith, spread-room false c.args.text.now)
+decode-requires c = omega (arith, spread_room false c.args.text.now)

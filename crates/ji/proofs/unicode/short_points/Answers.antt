@@ -6,20 +6,20 @@ use Prim.Native.Nat.{ℕ}
 use native.Mathlib.Omega.{arith}
 use Rattle.ucd.specs.Unicode16.{unicode16}
 use Rattle.ji.specs.Reply.{placed}
-use Rattle.ji.proofs.unicode.Laws.{spread-plain}
+use Rattle.ji.proofs.unicode.Laws.{spread_plain}
 use Rattle.ji.proofs.Readings.{front, told}
-use Rattle.ji.proofs.Writing.{written-length}
-use Rattle.ji.proofs.unicode.Reader.{spread-room}
+use Rattle.ji.proofs.Writing.{written_length}
+use Rattle.ji.proofs.unicode.Reader.{spread_room}
 use Rattle.ji.proofs.unicode.Replied.{reply}
 use Rattle.ji.proofs.unicode.short_points.Goals as goal
 
 pub decode-requires : goal.decode-requires
-decode-requires c = omega (arith, spread-room false c.args.text.now, c.requires)
+decode-requires c = omega (arith, spread_room false c.args.text.now, c.requires)
 
 pub slice_bounds-place_points-end : goal.slice_bounds-place_points-end
 slice_bounds-place_points-end c =
     let w = (told unicode16 _ _ _ false c.in-Points.is c.decode.ensures).2 in
-    omega (arith, w.fits, written-length w)
+    omega (arith, w.fits, written_length w)
 
 pub returns-in-Refused : goal.returns-in-Refused
 returns-in-Refused c = reply c.args.text.now (told unicode16 _ _ _ false c.in-Refused.is c.decode.ensures).0 c.args.out.now
@@ -28,5 +28,5 @@ pub returns-in-Points : goal.returns-in-Points
 returns-in-Points c =
     let r = told unicode16 _ _ _ false c.in-Points.is c.decode.ensures in
     c.place_points.ensures
-    ∙ ap (λ (l : List ℕ). placed 0 l c.args.out.now) (front r.2 ∙ spread-plain unicode16 r.0)
+    ∙ ap (λ (l : List ℕ). placed 0 l c.args.out.now) (front r.2 ∙ spread_plain unicode16 r.0)
     ∙ reply c.args.text.now r.1 c.args.out.now

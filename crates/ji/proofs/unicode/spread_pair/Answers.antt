@@ -5,12 +5,12 @@ use Rattle.ucd.specs.Table.{mapping, decomposition}
 use Rattle.ucd.specs.Unicode16.{unicode16}
 use Rattle.ucd.specs.Answer.{said}
 use Rattle.ucd.specs.declared.Mapping.{Mapping}
-use Rattle.ucd.proofs.Answer.{textOf}
+use Rattle.ucd.proofs.Answer.{text_of}
 use Rattle.ji.proofs.unicode.Laws.{told}
 use Rattle.ji.proofs.unicode.spread_pair.Goals as goal
 
 -- what the lookup told, with the second code point behind it
-joined : (a b : ℕ) {answer x : Mapping} → said answer ≡ mapping unicode16 a → answer ≡ x → textOf a x ++ (b ∷ []) ≡ decomposition unicode16 a ++ (b ∷ [])
+joined : (a b : ℕ) {answer x : Mapping} → said answer ≡ mapping unicode16 a → answer ≡ x → text_of a x ++ (b ∷ []) ≡ decomposition unicode16 a ++ (b ∷ [])
 joined a b says is = ap (λ (s : List ℕ). s ++ (b ∷ [])) (sym (told a says is))
 
 pub returns-in-Itself : goal.returns-in-Itself

@@ -4,27 +4,27 @@ use Prim.Native.Nat.{ℕ, ◌+◌, ◌<◌}
 use native.Mathlib.Numerals.{add-one}
 use lib.ListN.{length, drop, get_or, drop_of_length-le}
 use lib.Seq.{drop-cons}
-use Rattle.ji.proofs.Writing.{written-length}
-use Rattle.ji.proofs.Underway.{underway-start, underway-one, underway-end}
+use Rattle.ji.proofs.Writing.{written_length}
+use Rattle.ji.proofs.Underway.{underway_start, underway_one, underway_end}
 use native.Mathlib.Omega.{arith}
 use Rattle.ji.proofs.unicode.widen.Goals as goal
 
 pub loop-i-init : goal.loop-i-init
-loop-i-init c = let a = c.args in underway-start (λ (l : List ℕ). l) a.s.now a.out.now
+loop-i-init c = let a = c.args in underway_start (λ (l : List ℕ). l) a.s.now a.out.now
 
 pub overflow_cast-out : goal.overflow_cast-out
 overflow_cast-out c = omega (arith, c.shared_slice_known-1.given c.loop-i.i)
 
 pub bounds-out-i : goal.bounds-out-i
-bounds-out-i c = omega (arith, written-length c.loop-i.invariant.written, c.requires)
+bounds-out-i c = omega (arith, written_length c.loop-i.invariant.written, c.requires)
 
 pub loop-i-preserved : goal.loop-i-preserved
 loop-i-preserved c =
     let a = c.args in
     let i = c.loop-i.i in
     let h : i < length a.s.now = c.loop-i-test.true in
-    underway-one c.loop-i.invariant (i + 1) (get_or a.s.now i 0) (drop-cons a.s.now i 0 h ∙ ap (λ (k : ℕ). get_or a.s.now i 0 ∷ drop k a.s.now) (sym (add-one i))) (omega arith) (omega (arith, c.requires))
+    underway_one c.loop-i.invariant (i + 1) (get_or a.s.now i 0) (drop-cons a.s.now i 0 h ∙ ap (λ (k : ℕ). get_or a.s.now i 0 ∷ drop k a.s.now) (sym (add-one i))) (omega arith) (omega (arith, c.requires))
 
 pub returns : goal.returns
 returns c =
-    underway-end c.loop-i.invariant (drop_of_length-le c.args.s.now c.loop-i-test.false)
+    underway_end c.loop-i.invariant (drop_of_length-le c.args.s.now c.loop-i-test.false)

@@ -1,4 +1,4 @@
-use Rattle.ji.proofs.utf8.Encoding.{length_at, length-end}
+use Rattle.ji.proofs.utf8.Encoding.{length_at, length_end}
 use native.Mathlib.Omega.{arith}
 use Rattle.ji.proofs.utf8.encoded_len.Goals as goal
 
@@ -12,4 +12,4 @@ pub returns : goal.returns
 returns c =
     let l = c.loop-i in
     let a = c.args in
-    omega (arith, length-end a.s.now l.i c.loop-i-test.false)
+    omega (arith, length_end a.s.now l.i c.loop-i-test.false)

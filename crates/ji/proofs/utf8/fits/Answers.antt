@@ -2,7 +2,7 @@ use mathlib.Core.Path.{sym}
 use borrow.Author.Tests.{le-leb, lt-leb}
 use lib.ListN.{length}
 use Rattle.ji.specs.Utf8.{encode}
-use Rattle.ji.proofs.utf8.Encoding.{length_at, length-end}
+use Rattle.ji.proofs.utf8.Encoding.{length_at, length_end}
 use native.Mathlib.Omega.{arith}
 use Rattle.ji.proofs.utf8.fits.Goals as goal
 
@@ -22,4 +22,4 @@ pub returns : goal.returns
 returns c =
     let l = c.loop-i in
     let a = c.args in
-    sym (le-leb (length (encode a.s.now)) a.room (omega (arith, length-end a.s.now l.i c.loop-i-test.false)))
+    sym (le-leb (length (encode a.s.now)) a.room (omega (arith, length_end a.s.now l.i c.loop-i-test.false)))

@@ -1,7 +1,7 @@
-use Rattle.ji.proofs.utf8.Laws.{read-one}
+use Rattle.ji.proofs.utf8.Laws.{read_one}
 use native.Mathlib.Omega.{arith}
 use Rattle.ji.proofs.utf8.read.Goals as goal
 
 pub returns-then-a-le127 : goal.returns-then-a-le127
 returns-then-a-le127 c =
-    rw c.byte_at-a.ensures.0 (read-one c.args.s.now c.args.at c.requires (omega (arith, c.byte_at-a.ensures.0)))
+    rw c.byte_at-a.ensures.0 (read_one c.args.s.now c.args.at c.requires (omega (arith, c.byte_at-a.ensures.0)))

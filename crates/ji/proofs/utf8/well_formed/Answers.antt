@@ -1,8 +1,8 @@
 use mathlib.Core.Path.{refl, sym, ◌∙◌, ap}
 use Prim.Native.Nat.{ℕ, ◌+◌, ◌<◌}
 use lib.ListN.{drop}
-use Rattle.ji.specs.Utf8.{widthAt, decode, isDecoded}
-use Rattle.ji.proofs.utf8.Decoding.{width-most, decode-at-ill, decode-end, decoded-at}
+use Rattle.ji.specs.Utf8.{width_at, decode, is_decoded}
+use Rattle.ji.proofs.utf8.Decoding.{width_most, decode_at_ill, decode_end, decoded_at}
 use native.Mathlib.Omega.{arith}
 use Rattle.ji.proofs.utf8.well_formed.Goals as goal
 
@@ -13,24 +13,24 @@ pub returns-then-w-eq0 : goal.returns-then-w-eq0
 returns-then-w-eq0 c =
     let l = c.loop-i in
     let a = c.args in
-    sym (l.invariant ∙ ap isDecoded (decode-at-ill a.s.now l.i c.loop-i-test.true (sym c.read_at-sequence.ensures.wide ∙ c.if-w-eq0.true)))
+    sym (l.invariant ∙ ap is_decoded (decode_at_ill a.s.now l.i c.loop-i-test.true (sym c.read_at-sequence.ensures.wide ∙ c.if-w-eq0.true)))
 
 pub overflow_add-i : goal.overflow_add-i
 overflow_add-i c =
     let l = c.loop-i in
     let a = c.args in
-    omega (arith, width-most (drop l.i a.s.now), c.read_at-sequence.ensures.wide)
+    omega (arith, width_most (drop l.i a.s.now), c.read_at-sequence.ensures.wide)
 
 pub loop-i-preserved : goal.loop-i-preserved
 loop-i-preserved c =
     let l = c.loop-i in
     let a = c.args in
     let e = c.read_at-sequence.ensures.wide in
-    let pos : 0 < widthAt (drop l.i a.s.now) = omega arith in
-    l.invariant ∙ decoded-at a.s.now l.i c.loop-i-test.true pos ∙ ap (λ (w : ℕ). isDecoded (decode (drop (l.i + w) a.s.now))) (sym e)
+    let pos : 0 < width_at (drop l.i a.s.now) = omega arith in
+    l.invariant ∙ decoded_at a.s.now l.i c.loop-i-test.true pos ∙ ap (λ (w : ℕ). is_decoded (decode (drop (l.i + w) a.s.now))) (sym e)
 
 pub returns : goal.returns
 returns c =
     let l = c.loop-i in
     let a = c.args in
-    sym (l.invariant ∙ ap isDecoded (decode-end a.s.now l.i c.loop-i-test.false))
+    sym (l.invariant ∙ ap is_decoded (decode_end a.s.now l.i c.loop-i-test.false))

@@ -7,15 +7,15 @@ use lib.Seq.{length-take-le}
 use Rattle.ji.specs.Unicode.{unicode16}
 use Rattle.ji.specs.Utf8.{decode, encode}
 use Rattle.ji.specs.Written.{Written}
-use Rattle.ji.specs.Reply.{placed, good, checkPoints}
+use Rattle.ji.specs.Reply.{placed, good, check_points}
 use Rattle.ji.specs.declared.unicode.CharLen.{CharLen}
 use Rattle.ji.specs.declared.unicode.Decoded.TheVariants.{Points}
-use Rattle.ji.proofs.Writing.{written-length, written-take, stored-key}
-use Rattle.ji.proofs.Points.{points-done, points-refused}
-use Rattle.ji.proofs.unicode.Checked.{bytes-good, good-same, good-not-bad}
-use Rattle.khiin.specs.Telex.{composedOf, RestIn}
+use Rattle.ji.proofs.Writing.{written_length, written_take, stored_key}
+use Rattle.ji.proofs.Points.{points_done, points_refused}
+use Rattle.ji.proofs.unicode.Checked.{bytes_good, good_same, good_not_bad}
+use Rattle.khiin.specs.Telex.{composed_of, RestIn}
 use Rattle.khiin.proofs.syllable.compose.Reading.{fewer}
-use Rattle.khiin.proofs.converter.Laws.{key-behind}
+use Rattle.khiin.proofs.converter.Laws.{key_behind}
 use native.Mathlib.Omega.{arith}
 use Rattle.khiin.proofs.converter.compose_in.Goals as goal
 use Rattle.khiin.proofs.converter.compose_in.Goals.{After-points}
@@ -31,18 +31,18 @@ module _ (c : After-points) where
   abbrev after : List ℕ
   after = c.points.new.out
 
-  part-is : part ≡ take n c.args.bytes.now
-  part-is = ap (λ (m : ℕ). take m c.args.bytes.now) (sub-zero n)
+  part_is : part ≡ take n c.args.bytes.now
+  part_is = ap (λ (m : ℕ). take m c.args.bytes.now) (sub-zero n)
 
   size : length (take n c.args.bytes.now) ≡ n
   size = let p = c.requires.1 in length-take-le n c.args.bytes.now (omega (arith, p))
 
   room : length part ≤ length c.args.points.now
-  room = let p = c.requires.2 in rw part-is (omega (arith, size, p))
+  room = let p = c.requires.2 in rw part_is (omega (arith, size, p))
 
   module _ (h : RestIn c.args.bytes.now n) where
-    good-rest : checkPoints unicode16 (decode part) ≡ good h.rest
-    good-rest = bytes-good part h.rest h.inside (part-is ∙ h.written)
+    good_rest : check_points unicode16 (decode part) ≡ good h.rest
+    good_rest = bytes_good part h.rest h.inside (part_is ∙ h.written)
 
     fewest : length h.rest ≤ n
     fewest = omega (arith, fewer h.rest, ap length h.written, size)
@@ -50,16 +50,16 @@ module _ (c : After-points) where
     module _ (len : CharLen) (is : c.points.result ≡ Points len) where
       read : Written c.args.points.now after len.0 h.rest
       read =
-          let g = points-done part c.args.points.now after room c.points.ensures len is in
-          subst (λ (l : List ℕ). Written c.args.points.now after len.0 l) (good-same (sym g.1 ∙ good-rest)) g.2
+          let g = points_done part c.args.points.now after room c.points.ensures len is in
+          subst (λ (l : List ℕ). Written c.args.points.now after len.0 l) (good_same (sym g.1 ∙ good_rest)) g.2
 
-      raw-is : take (n + 1 - 0) (set c.args.bytes.now n c.args.key) ≡ encode (take len.0 after ++ (c.args.key ∷ []))
-      raw-is =
+      raw_is : take (n + 1 - 0) (set c.args.bytes.now n c.args.key) ≡ encode (take len.0 after ++ (c.args.key ∷ []))
+      raw_is =
           let key = c.args.key in
-          stored-key c.args.bytes.now n key c.requires.1
+          stored_key c.args.bytes.now n key c.requires.1
           ∙ ap (λ (l : List ℕ). l ++ (key ∷ [])) h.written
-          ∙ key-behind h.rest key c.requires.0
-          ∙ ap (λ (l : List ℕ). encode (l ++ (key ∷ []))) (sym (written-take read))
+          ∙ key_behind h.rest key c.requires.0
+          ∙ ap (λ (l : List ℕ). encode (l ++ (key ∷ []))) (sym (written_take read))
 
 pub bounds-bytes-n : goal.bounds-bytes-n
 bounds-bytes-n c = c.requires.1
@@ -70,16 +70,16 @@ slice_bounds-compose_step-end c = omega (arith, c.requires.1, length-set c.args.
 pub compose_step-requires : goal.compose_step-requires
 compose_step-requires c =
     let w = read (goal.at.compose_step-requires c).After-points c.requires.4 c.in-Points.count c.in-Points.is in
-    (omega (arith, w.size, c.requires.4.few), omega (arith, w.size, fewest (goal.at.compose_step-requires c).After-points c.requires.4, written-length w, c.requires.3), raw-is (goal.at.compose_step-requires c).After-points c.requires.4 c.in-Points.count c.in-Points.is)
+    (omega (arith, w.size, c.requires.4.few), omega (arith, w.size, fewest (goal.at.compose_step-requires c).After-points c.requires.4, written_length w, c.requires.3), raw_is (goal.at.compose_step-requires c).After-points c.requires.4 c.in-Points.count c.in-Points.is)
 
 pub returns-in-Refused : goal.returns-in-Refused
 returns-in-Refused c =
     λ h.
     let at-points = (goal.at.returns-in-Refused c).After-points in
-    absurd (good-not-bad (sym (good-rest at-points h) ∙ points-refused (part at-points) c.args.points.now c.points.new.out (room at-points) c.points.ensures c.in-Refused.why c.in-Refused.is))
+    absurd (good_not_bad (sym (good_rest at-points h) ∙ points_refused (part at-points) c.args.points.now c.points.new.out (room at-points) c.points.ensures c.in-Refused.why c.in-Refused.is))
 
 pub returns-in-Points : goal.returns-in-Points
 returns-in-Points c =
     λ h.
     c.compose_step.ensures
-    ∙ ap (λ (l : List ℕ). placed 0 (encode (composedOf unicode16 c.args.k c.args.key c.args.tone l)) c.args.out.now) (written-take (read (goal.at.returns-in-Points c).After-points h c.in-Points.count c.in-Points.is))
+    ∙ ap (λ (l : List ℕ). placed 0 (encode (composed_of unicode16 c.args.k c.args.key c.args.tone l)) c.args.out.now) (written_take (read (goal.at.returns-in-Points c).After-points h c.in-Points.count c.in-Points.is))

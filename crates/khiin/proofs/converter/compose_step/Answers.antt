@@ -9,19 +9,19 @@ use lib.ListN.{length, take, set, length-set, length-append}
 use lib.Seq.{length-take-le, take-take, take-set-le, take_all}
 use Rattle.ji.specs.Unicode.{unicode16}
 use Rattle.ji.specs.Utf8.{encode}
-use Rattle.ji.specs.Text.{allAscii}
-use Rattle.ji.specs.Reply.{Reply, placed, textReply}
+use Rattle.ji.specs.Text.{all_ascii}
+use Rattle.ji.specs.Reply.{Reply, placed, text_reply}
 use Rattle.ji.specs.declared.tone.Tone.{Tone}
 use Rattle.ji.specs.declared.lomaji.khin.Khin.TheVariants.{No}
-use Rattle.ji.proofs.Bools.{either, text-yes, text-no}
-use Rattle.ji.proofs.Writing.{stored-key}
+use Rattle.ji.proofs.Bools.{either, text_yes, text_no}
+use Rattle.ji.proofs.Writing.{stored_key}
 use Rattle.ji.proofs.unicode.Bytes.{fewer}
 use Rattle.khiin.specs.Syllable.{compose}
 use Rattle.khiin.specs.Converter.{grown}
-use Rattle.khiin.specs.Telex.{composedOf}
+use Rattle.khiin.specs.Telex.{composed_of}
 use Rattle.khiin.specs.declared.converter.ToneKeys.{ToneKeys}
 use Rattle.ji.specs.declared.reply.TextAnswer.{TextAnswer}
-use Rattle.khiin.proofs.syllable.plain.Laws.{front-ascii}
+use Rattle.khiin.proofs.syllable.plain.Laws.{front_ascii}
 use native.Mathlib.Omega.{arith}
 use Rattle.khiin.proofs.converter.compose_step.Goals as goal
 
@@ -35,49 +35,49 @@ module _ (p : List ℕ) (n key : ℕ) (h : n + 2 < length p) where
   size : length whole ≡ n + 1
   size = length-take-le (n + 1 - 0) stored (omega (arith, length-set p n key)) ∙ sub-zero (n + 1)
 
-  front-same : take n whole ≡ take n p
-  front-same = take-take n (n + 1 - 0) stored (omega arith) ∙ take-set-le n p n key (omega arith)
+  front_same : take n whole ≡ take n p
+  front_same = take-take n (n + 1 - 0) stored (omega arith) ∙ take-set-le n p n key (omega arith)
 
-  grown-same : (len : ℕ) → (key ≡ 0x20 → len ≡ n) → ((key ≡ 0x20 → ⊥) → len ≡ n + 1) → grown key (take n whole) ≡ take len whole
-  grown-same len f g =
+  grown_same : (len : ℕ) → (key ≡ 0x20 → len ≡ n) → ((key ≡ 0x20 → ⊥) → len ≡ n + 1) → grown key (take n whole) ≡ take len whole
+  grown_same len f g =
       either (eqb key 0x20)
-      (λ e. text-yes (eqb key 0x20) _ _ e ∙ ap (λ (m : ℕ). take m whole) (sym (f (eqb-true key 0x20 e))))
+      (λ e. text_yes (eqb key 0x20) _ _ e ∙ ap (λ (m : ℕ). take m whole) (sym (f (eqb-true key 0x20 e))))
       (λ e.
-      text-no (eqb key 0x20) _ _ e
-      ∙ ap (λ (l : List ℕ). l ++ (key ∷ [])) front-same
-      ∙ sym (stored-key p n key (omega arith))
+      text_no (eqb key 0x20) _ _ e
+      ∙ ap (λ (l : List ℕ). l ++ (key ∷ [])) front_same
+      ∙ sym (stored_key p n key (omega arith))
       ∙ sym (ap (λ (m : ℕ). take m whole) (g (eqb-false key 0x20 e)) ∙ take_all (n + 1) whole (omega (arith, size))))
 
-  part-same : (c : ℕ) → c ≤ length whole → take c whole ≡ take c stored
-  part-same c l = take-take c (n + 1 - 0) stored (omega (arith, size))
+  part_same : (c : ℕ) → c ≤ length whole → take c whole ≡ take c stored
+  part_same c l = take-take c (n + 1 - 0) stored (omega (arith, size))
 
-  step-text : (k : ToneKeys) (tone : Tone) (len c : ℕ) (o : Tone) → (key ≡ 0x20 → len ≡ n) → ((key ≡ 0x20 → ⊥) → len ≡ n + 1) → c ≤ length whole
-      → (grown key (take n whole) ≡ take len whole → composedOf unicode16 k key tone (take n whole) ≡ compose unicode16 (take n whole ++ (key ∷ [])) (take c whole) o No)
-      → compose unicode16 (take n p ++ (key ∷ [])) (take c stored) o No ≡ composedOf unicode16 k key tone (take n p)
-  step-text k tone len c o f g l e =
-      ap (λ (b : List ℕ). compose unicode16 (take n p ++ (key ∷ [])) b o No) (sym (part-same c l))
-      ∙ ap (λ (r : List ℕ). compose unicode16 (r ++ (key ∷ [])) (take c whole) o No) (sym front-same)
-      ∙ sym (e (grown-same len f g))
-      ∙ ap (composedOf unicode16 k key tone) front-same
+  step_text : (k : ToneKeys) (tone : Tone) (len c : ℕ) (o : Tone) → (key ≡ 0x20 → len ≡ n) → ((key ≡ 0x20 → ⊥) → len ≡ n + 1) → c ≤ length whole
+      → (grown key (take n whole) ≡ take len whole → composed_of unicode16 k key tone (take n whole) ≡ compose unicode16 (take n whole ++ (key ∷ [])) (take c whole) o No)
+      → compose unicode16 (take n p ++ (key ∷ [])) (take c stored) o No ≡ composed_of unicode16 k key tone (take n p)
+  step_text k tone len c o f g l e =
+      ap (λ (b : List ℕ). compose unicode16 (take n p ++ (key ∷ [])) b o No) (sym (part_same c l))
+      ∙ ap (λ (r : List ℕ). compose unicode16 (r ++ (key ∷ [])) (take c whole) o No) (sym front_same)
+      ∙ sym (e (grown_same len f g))
+      ∙ ap (composed_of unicode16 k key tone) front_same
 
   -- the bytes of the text and the key, and what of them the quick way takes for the body
   module _ (raw : List ℕ) (is : raw ≡ encode (take n p ++ (key ∷ []))) where
-    abbrev typedText : List ℕ
-    typedText = take n p ++ (key ∷ [])
+    abbrev typed_text : List ℕ
+    typed_text = take n p ++ (key ∷ [])
 
-    typed-long : length typedText ≡ n + 1
-    typed-long = length-append (take n p) (key ∷ []) ∙ ap (λ (k : ℕ). k + 1) (length-take-le n p (omega arith))
+    typed_long : length typed_text ≡ n + 1
+    typed_long = length-append (take n p) (key ∷ []) ∙ ap (λ (k : ℕ). k + 1) (length-take-le n p (omega arith))
 
-    raw-long : n + 1 ≤ length raw
-    raw-long = omega (arith, ap length is, fewer typedText, typed-long)
+    raw_long : n + 1 ≤ length raw
+    raw_long = omega (arith, ap length is, fewer typed_text, typed_long)
 
-    body-same : (c : ℕ) → c ≤ length whole → allAscii (take (c - 0) raw) ≡ true → take (c - 0) raw ≡ take c stored
-    body-same c l ascii =
-        let e : take (c - 0) raw ≡ take c (encode typedText) = ap₂ (λ (m : ℕ) (u : List ℕ). take m u) (sub-zero c) is in
+    body_same : (c : ℕ) → c ≤ length whole → all_ascii (take (c - 0) raw) ≡ true → take (c - 0) raw ≡ take c stored
+    body_same c l ascii =
+        let e : take (c - 0) raw ≡ take c (encode typed_text) = ap₂ (λ (m : ℕ) (u : List ℕ). take m u) (sub-zero c) is in
         e
-        ∙ front-ascii typedText c (omega (arith, l, size, typed-long)) (subst (λ (u : List ℕ). allAscii u ≡ true) e ascii)
-        ∙ ap (take c) (sym (stored-key p n key (omega arith)))
-        ∙ part-same c l
+        ∙ front_ascii typed_text c (omega (arith, l, size, typed_long)) (subst (λ (u : List ℕ). all_ascii u ≡ true) e ascii)
+        ∙ ap (take c) (sym (stored_key p n key (omega arith)))
+        ∙ part_same c l
 
 pub slice_bounds-typed-end : goal.slice_bounds-typed-end
 slice_bounds-typed-end c = omega (arith, c.requires.1, length-set c.args.points.now c.args.n c.args.key)
@@ -90,17 +90,17 @@ typed-body-requires c =
 pub slice_bounds-compose_plain-end : goal.slice_bounds-compose_plain-end
 slice_bounds-compose_plain-end c =
     let s = size c.args.points.now c.args.n c.args.key c.requires.1 in
-    omega (arith, c.typed-body.ensures.0, s, raw-long c.args.points.now c.args.n c.args.key c.requires.1 c.args.raw.now c.requires.2)
+    omega (arith, c.typed-body.ensures.0, s, raw_long c.args.points.now c.args.n c.args.key c.requires.1 c.args.raw.now c.requires.2)
 
 pub returns-then-size-gt0 : goal.returns-then-size-gt0
 returns-then-size-gt0 c =
     let here : List ℕ → Reply = λ l. placed 0 (encode l) c.args.out.now in
-    ap (λ (r : TextAnswer). textReply r c.compose_plain-size.new.out) c.answer.ensures
+    ap (λ (r : TextAnswer). text_reply r c.compose_plain-size.new.out) c.answer.ensures
     ∙ (c.compose_plain-size.ensures.1 _ c.requires.2).1 c.if-size-gt0.true
     ∙ ap (λ (b : List ℕ). here (compose unicode16 (take c.args.n c.args.points.now ++ (c.args.key ∷ [])) b c.typed-body.result.tone No))
-    (body-same c.args.points.now c.args.n c.args.key c.requires.1 c.args.raw.now c.requires.2 c.typed-body.result.len c.typed-body.ensures.0 (c.compose_plain-size.ensures.0 c.if-size-gt0.true))
+    (body_same c.args.points.now c.args.n c.args.key c.requires.1 c.args.raw.now c.requires.2 c.typed-body.result.len c.typed-body.ensures.0 (c.compose_plain-size.ensures.0 c.if-size-gt0.true))
     ∙ ap here
-    (step-text c.args.points.now c.args.n c.args.key c.requires.1 c.args.k c.args.tone _ _ _ c.grown_len.ensures.0 c.grown_len.ensures.1 c.typed-body.ensures.0 c.typed-body.ensures.1)
+    (step_text c.args.points.now c.args.n c.args.key c.requires.1 c.args.k c.args.tone _ _ _ c.grown_len.ensures.0 c.grown_len.ensures.1 c.typed-body.ensures.0 c.typed-body.ensures.1)
 
 pub compose_points-requires : goal.compose_points-requires
 compose_points-requires c =
@@ -110,8 +110,8 @@ compose_points-requires c =
 pub returns : goal.returns
 returns c =
     let text = compose unicode16 (take c.args.n c.args.points.now ++ (c.args.key ∷ [])) (take c.typed-body.result.len (stored c.args.points.now c.args.n c.args.key c.requires.1)) c.typed-body.result.tone No in
-    ap (λ (r : TextAnswer). textReply r c.compose_points.new.out) c.answer-2.ensures
+    ap (λ (r : TextAnswer). text_reply r c.compose_points.new.out) c.answer-2.ensures
     ∙ c.compose_points.ensures _ c.requires.2
     ∙ ap (placed 0 (encode text)) ((c.compose_plain-size.ensures.1 _ c.requires.2).0 (omega (arith, c.if-size-gt0.false)))
     ∙ ap (λ (l : List ℕ). placed 0 (encode l) c.args.out.now)
-    (step-text c.args.points.now c.args.n c.args.key c.requires.1 c.args.k c.args.tone _ _ _ c.grown_len.ensures.0 c.grown_len.ensures.1 c.typed-body.ensures.0 c.typed-body.ensures.1)
+    (step_text c.args.points.now c.args.n c.args.key c.requires.1 c.args.k c.args.tone _ _ _ c.grown_len.ensures.0 c.grown_len.ensures.1 c.typed-body.ensures.0 c.typed-body.ensures.1)

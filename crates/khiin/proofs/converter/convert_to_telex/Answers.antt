@@ -4,59 +4,59 @@ use mathlib.Core.List.{List}
 use Prim.Native.Nat.{ℕ}
 use Rattle.ji.specs.Unicode.{unicode16}
 use Rattle.ji.specs.Text.{within}
-use Rattle.ji.specs.Reply.{Reply, refused, pickReply, textCall}
+use Rattle.ji.specs.Reply.{Reply, refused, pick_reply, text_call}
 use Rattle.ji.specs.declared.reply.Refusal.TheVariants.{Argument, TooLong}
-use Rattle.ji.proofs.Bools.{and-no, and-yes, and-false, within-yes, within-below, within-above}
-use Rattle.ji.proofs.Replies.{check-long, text-refused}
-use Rattle.khiin.specs.Converter.{keysIn, settingsFit, telex, telexCall}
-use Rattle.khiin.specs.Telex.{stepOf}
+use Rattle.ji.proofs.Bools.{and_no, and_yes, and_false, within_yes, within_below, within_above}
+use Rattle.ji.proofs.Replies.{check_long, text_refused}
+use Rattle.khiin.specs.Converter.{keys_in, settings_fit, telex, telex_call}
+use Rattle.khiin.specs.Telex.{step_of}
 use Rattle.khiin.specs.declared.converter.ToneKeys.{ToneKeys}
 use Rattle.khiin.specs.declared.converter.ToneMode.{ToneMode}
 use Rattle.khiin.proofs.converter.convert_to_telex.Goals as goal
 
 module _ (mode : ToneMode) (k : ToneKeys) (key : ℕ) (text buffer : List ℕ) where
   abbrev picked : Bool → Reply
-  picked b = pickReply b (textCall unicode16 (telex unicode16 mode k key) text buffer) (refused Argument buffer)
+  picked b = pick_reply b (text_call unicode16 (telex unicode16 mode k key) text buffer) (refused Argument buffer)
 
-  refused-key : within 0x20 0x7E key ≡ false → refused Argument buffer ≡ telexCall unicode16 mode k key text buffer
-  unfolding telexCall
-  refused-key e = sym (ap picked (and-no (within 0x20 0x7E key) (settingsFit k) e))
+  refused_key : within 0x20 0x7E key ≡ false → refused Argument buffer ≡ telex_call unicode16 mode k key text buffer
+  unfolding telex_call
+  refused_key e = sym (ap picked (and_no (within 0x20 0x7E key) (settings_fit k) e))
 
-  refused-settings : settingsFit k ≡ false → refused Argument buffer ≡ telexCall unicode16 mode k key text buffer
-  unfolding telexCall
-  refused-settings e = sym (ap picked (ap (λ (b : Bool). within 0x20 0x7E key && b) e ∙ and-false (within 0x20 0x7E key)))
+  refused_settings : settings_fit k ≡ false → refused Argument buffer ≡ telex_call unicode16 mode k key text buffer
+  unfolding telex_call
+  refused_settings e = sym (ap picked (ap (λ (b : Bool). within 0x20 0x7E key && b) e ∙ and_false (within 0x20 0x7E key)))
 
   -- the step with the keys that the mode leaves
-  taken : within 0x20 0x7E key ≡ true → settingsFit k ≡ true → (used : ToneKeys) → used ≡ keysIn mode k → textCall unicode16 (stepOf unicode16 used key) text buffer ≡ telexCall unicode16 mode k key text buffer
-  unfolding telexCall telex stepOf
+  taken : within 0x20 0x7E key ≡ true → settings_fit k ≡ true → (used : ToneKeys) → used ≡ keys_in mode k → text_call unicode16 (step_of unicode16 used key) text buffer ≡ telex_call unicode16 mode k key text buffer
+  unfolding telex_call telex step_of
   taken e f used g =
-      ap (λ (x : ToneKeys). textCall unicode16 (stepOf unicode16 x key) text buffer) g
-      ∙ sym (ap picked (and-yes (within 0x20 0x7E key) (settingsFit k) e ∙ f))
+      ap (λ (x : ToneKeys). text_call unicode16 (step_of unicode16 x key) text buffer) g
+      ∙ sym (ap picked (and_yes (within 0x20 0x7E key) (settings_fit k) e ∙ f))
 
 pub returns-then-key-lt32 : goal.returns-then-key-lt32
-returns-then-key-lt32 c = let a = c.args in refused-key a.mode a.keys a.key a.text.now a.out.now (within-below 0x20 0x7E a.key c.if-key-lt32.true)
+returns-then-key-lt32 c = let a = c.args in refused_key a.mode a.keys a.key a.text.now a.out.now (within_below 0x20 0x7E a.key c.if-key-lt32.true)
 
 pub returns-then-key-gt126 : goal.returns-then-key-gt126
-returns-then-key-gt126 c = let a = c.args in refused-key a.mode a.keys a.key a.text.now a.out.now (within-above 0x20 0x7E a.key c.if-key-gt126.true)
+returns-then-key-gt126 c = let a = c.args in refused_key a.mode a.keys a.key a.text.now a.out.now (within_above 0x20 0x7E a.key c.if-key-gt126.true)
 
 pub returns-then-not-settings_fit : goal.returns-then-not-settings_fit
-returns-then-not-settings_fit c = let a = c.args in refused-settings a.mode a.keys a.key a.text.now a.out.now (sym c.settings_fit.ensures ∙ c.if-not-settings_fit.true)
+returns-then-not-settings_fit c = let a = c.args in refused_settings a.mode a.keys a.key a.text.now a.out.now (sym c.settings_fit.ensures ∙ c.if-not-settings_fit.true)
 
 pub returns-then-text-le8 : goal.returns-then-text-le8
 returns-then-text-le8 c =
     let a = c.args in
     c.step_short.ensures
-    ∙ taken a.mode a.keys a.key a.text.now a.out.now (within-yes 0x20 0x7E a.key c.if-key-lt32.false c.if-key-gt126.false) (sym c.settings_fit.ensures ∙ c.if-not-settings_fit.false) _ c.keys_in-k.ensures
+    ∙ taken a.mode a.keys a.key a.text.now a.out.now (within_yes 0x20 0x7E a.key c.if-key-lt32.false c.if-key-gt126.false) (sym c.settings_fit.ensures ∙ c.if-not-settings_fit.false) _ c.keys_in-k.ensures
 
 pub returns-then-text-le256 : goal.returns-then-text-le256
 returns-then-text-le256 c =
     let a = c.args in
     c.step_long.ensures
-    ∙ taken a.mode a.keys a.key a.text.now a.out.now (within-yes 0x20 0x7E a.key c.if-key-lt32.false c.if-key-gt126.false) (sym c.settings_fit.ensures ∙ c.if-not-settings_fit.false) _ c.keys_in-k.ensures
+    ∙ taken a.mode a.keys a.key a.text.now a.out.now (within_yes 0x20 0x7E a.key c.if-key-lt32.false c.if-key-gt126.false) (sym c.settings_fit.ensures ∙ c.if-not-settings_fit.false) _ c.keys_in-k.ensures
 
 pub returns : goal.returns
 returns c =
     let a = c.args in
     let k = c.keys_in-k in
-    text-refused unicode16 (stepOf unicode16 k.result a.key) a.text.now a.out.now TooLong (check-long unicode16 a.text.now c.if-text-le256.false)
-    ∙ taken a.mode a.keys a.key a.text.now a.out.now (within-yes 0x20 0x7E a.key c.if-key-lt32.false c.if-key-gt126.false) (sym c.settings_fit.ensures ∙ c.if-not-settings_fit.false) _ k.ensures
+    text_refused unicode16 (step_of unicode16 k.result a.key) a.text.now a.out.now TooLong (check_long unicode16 a.text.now c.if-text-le256.false)
+    ∙ taken a.mode a.keys a.key a.text.now a.out.now (within_yes 0x20 0x7E a.key c.if-key-lt32.false c.if-key-gt126.false) (sym c.settings_fit.ensures ∙ c.if-not-settings_fit.false) _ k.ensures

@@ -10,46 +10,46 @@ use borrow.Author.Tests.{eq-eqb, ne_eqb, eqb-true}
 use lib.Dec.{eqb}
 use lib.ListN.{length, take, drop, get_or, set, length-set, length-append, drop_of_length-le, take-append-drop, get_or-eq_default, get_or-append}
 use lib.Seq.{set-get_or, get_or-set_same, get_or-set_other, get_or-take, get_or-drop, drop-drop, length-take-le, take-suc-set}
-use Rattle.ji.specs.Unicode.{listed, pickText}
-use Rattle.ji.specs.Text.{points, marked, point, within, lower, begins, replaceAll, last}
+use Rattle.ji.specs.Unicode.{listed, pick_text}
+use Rattle.ji.specs.Text.{points, marked, point, within, lower, begins, replace_all, last}
 use Rattle.ji.specs.Lomaji.Keys.{respell}
-use Rattle.ji.proofs.Bools.{either, false-true, and-yes, and-no, and-false, and-left, and-right, or-no, number-yes, number-no, text-yes, text-no}
-use Rattle.ji.proofs.text.Laws.{drop-next, begins-length, replace-hit, replace-miss, replace-none}
-use Rattle.ji.proofs.unicode.Bytes.{last-skip}
-use Rattle.khiin.specs.Syllable.{vowelRules, nasalRules, oRules, endsNasal, moved}
-use Rattle.khiin.specs.Compose.{Front, isPair, isNasalPair, takesDot, NoPairIn, NoNasalBefore, NoSignBefore, DotAt}
-use Rattle.khiin.proofs.syllable.compose.Laws.{pair-at, nasal-short, nasal-read, dotted, o-dotted, dot-at}
+use Rattle.ji.proofs.Bools.{either, false_true, and_yes, and_no, and_false, and_left, and_right, or_no, number_yes, number_no, text_yes, text_no}
+use Rattle.ji.proofs.text.Laws.{drop_next, begins_length, replace_hit, replace_miss, replace_none}
+use Rattle.ji.proofs.unicode.Bytes.{last_skip}
+use Rattle.khiin.specs.Syllable.{vowel_rules, nasal_rules, o_rules, ends_nasal, moved}
+use Rattle.khiin.specs.Compose.{Front, is_pair, is_nasal_pair, takes_dot, NoPairIn, NoNasalBefore, NoSignBefore, DotAt}
+use Rattle.khiin.proofs.syllable.compose.Laws.{pair_at_law, nasal_short, nasal_read, dotted, o_dotted, dot_at}
 
 -- ── a pattern that occurs once
 module _ (p r : List ℕ) (some : 0 < length p) where
-  begins-nothing : begins p [] ≡ true → ⊥
-  begins-nothing e = omega (arith, begins-length p [] e)
+  begins_nothing : begins p [] ≡ true → ⊥
+  begins_nothing e = omega (arith, begins_length p [] e)
 
-  pub replace-once : (s : List ℕ) (i : ℕ) → begins p (drop i s) ≡ true → ((k : ℕ) → k < i → begins p (drop k s) ≡ false)
-      → ((k : ℕ) → i + length p ≤ k → begins p (drop k s) ≡ false) → replaceAll p r s ≡ take i s ++ (r ++ drop (i + length p) s)
-  replace-once [] zero e before after = absurd (begins-nothing e)
-  replace-once (x ∷ s) zero e before after =
+  pub replace_once : (s : List ℕ) (i : ℕ) → begins p (drop i s) ≡ true → ((k : ℕ) → k < i → begins p (drop k s) ≡ false)
+      → ((k : ℕ) → i + length p ≤ k → begins p (drop k s) ≡ false) → replace_all p r s ≡ take i s ++ (r ++ drop (i + length p) s)
+  replace_once [] zero e before after = absurd (begins_nothing e)
+  replace_once (x ∷ s) zero e before after =
       let z : 0 + length p ≡ length p = omega arith in
-      let rest : replaceAll p r (drop (length p) (x ∷ s)) ≡ drop (length p) (x ∷ s) = replace-none p r (drop (length p) (x ∷ s)) (λ k h. ap (begins p) (drop-drop k (length p) (x ∷ s)) ∙ after (length p + k) (omega arith)) in
-      replace-hit p r x s some e ∙ ap (λ (t : List ℕ). r ++ t) (rest ∙ ap (λ (n : ℕ). drop n (x ∷ s)) (sym z))
-  replace-once [] (suc i) e before after = absurd (begins-nothing e)
-  replace-once (x ∷ s) (suc i) e before after =
+      let rest : replace_all p r (drop (length p) (x ∷ s)) ≡ drop (length p) (x ∷ s) = replace_none p r (drop (length p) (x ∷ s)) (λ k h. ap (begins p) (drop-drop k (length p) (x ∷ s)) ∙ after (length p + k) (omega arith)) in
+      replace_hit p r x s some e ∙ ap (λ (t : List ℕ). r ++ t) (rest ∙ ap (λ (n : ℕ). drop n (x ∷ s)) (sym z))
+  replace_once [] (suc i) e before after = absurd (begins_nothing e)
+  replace_once (x ∷ s) (suc i) e before after =
       let z : suc i + length p ≡ suc (i + length p) = omega arith in
-      replace-miss p r x s (before 0 (omega arith))
+      replace_miss p r x s (before 0 (omega arith))
       ∙ ap (λ (t : List ℕ). x ∷ t)
-      (replace-once s i e (λ k h. before (suc k) (omega arith)) (λ k h. after (suc k) (omega arith)))
+      (replace_once s i e (λ k h. before (suc k) (omega arith)) (λ k h. after (suc k) (omega arith)))
       ∙ ap (λ (n : ℕ). x ∷ (take i s ++ (r ++ drop n (x ∷ s)))) (sym z)
 
 -- two stores
-stored-two : (s : List ℕ) (i c d : ℕ) → i + 1 < length s → take i s ++ (c ∷ d ∷ drop (i + 2) s) ≡ set (set s i c) (i + 1) d
-stored-two [] i c d h = absurd (omega arith)
-stored-two (x ∷ []) i c d h = absurd (omega arith)
-stored-two (x ∷ (y ∷ s)) zero c d h = refl
-stored-two (x ∷ (y ∷ s)) (suc i) c d h =
+stored_two : (s : List ℕ) (i c d : ℕ) → i + 1 < length s → take i s ++ (c ∷ d ∷ drop (i + 2) s) ≡ set (set s i c) (i + 1) d
+stored_two [] i c d h = absurd (omega arith)
+stored_two (x ∷ []) i c d h = absurd (omega arith)
+stored_two (x ∷ (y ∷ s)) zero c d h = refl
+stored_two (x ∷ (y ∷ s)) (suc i) c d h =
     let a : suc i + 2 ≡ suc (i + 2) = omega arith in
     let b : suc i + 1 ≡ suc (i + 1) = omega arith in
     ap (λ (n : ℕ). x ∷ (take i (y ∷ s) ++ (c ∷ d ∷ drop n (x ∷ y ∷ s)))) a
-    ∙ ap (λ (t : List ℕ). x ∷ t) (stored-two (y ∷ s) i c d (omega arith))
+    ∙ ap (λ (t : List ℕ). x ∷ t) (stored_two (y ∷ s) i c d (omega arith))
     ∙ sym (ap (λ (n : ℕ). set (x ∷ set (y ∷ s) i c) n d) b)
 
 -- ── one pair of vowels
@@ -69,38 +69,38 @@ pub record VowelRule (r : List ℕ × List ℕ) : Type 0 where
   pub result : r.1 ≡ c ∷ mark ∷ []
   pub first : First a ≡ true
   pub second : Second b ≡ true
-  pub not-first : First mark ≡ false
-  pub not-second : Second mark ≡ false
+  pub not_first : First mark ≡ false
+  pub not_second : Second mark ≡ false
 
 abbrev Rules : List (List ℕ × List ℕ) → Type 0
 Rules [] = Unit {0}
 Rules (r ∷ rs) = VowelRule r × Rules rs
 
 -- where a rule's pattern stands, a pair does
-begins-pair : (a b : ℕ) → First a ≡ true → Second b ≡ true → (s : List ℕ) → begins (a ∷ b ∷ []) s ≡ true → isPair s ≡ true
-unfolding begins isPair
-begins-pair a b f g [] e = absurd (false-true e)
-begins-pair a b f g (x ∷ []) e = absurd (false-true (sym (and-false (eqb x a)) ∙ e))
-begins-pair a b f g (x ∷ (y ∷ s)) e =
-    let x-is = eqb-true x a (and-left (eqb x a) (eqb y b && true) e) in
-    let y-is = eqb-true y b (and-left (eqb y b) true (and-right (eqb x a) (eqb y b && true) e)) in
-    and-yes _ _ (ap First x-is ∙ f) ∙ ap Second y-is ∙ g
+begins_pair : (a b : ℕ) → First a ≡ true → Second b ≡ true → (s : List ℕ) → begins (a ∷ b ∷ []) s ≡ true → is_pair s ≡ true
+unfolding begins is_pair
+begins_pair a b f g [] e = absurd (false_true e)
+begins_pair a b f g (x ∷ []) e = absurd (false_true (sym (and_false (eqb x a)) ∙ e))
+begins_pair a b f g (x ∷ (y ∷ s)) e =
+    let x-is = eqb-true x a (and_left (eqb x a) (eqb y b && true) e) in
+    let y-is = eqb-true y b (and_left (eqb y b) true (and_right (eqb x a) (eqb y b && true) e)) in
+    and_yes _ _ (ap First x-is ∙ f) ∙ ap Second y-is ∙ g
 
-no-pair-begins : (r : List ℕ × List ℕ) → VowelRule r → (s : List ℕ) → isPair s ≡ false → begins r.0 s ≡ false
-no-pair-begins r v s e =
+no_pair_begins : (r : List ℕ × List ℕ) → VowelRule r → (s : List ℕ) → is_pair s ≡ false → begins r.0 s ≡ false
+no_pair_begins r v s e =
     either (begins r.0 s)
-    (λ y. absurd (false-true (sym e ∙ begins-pair v.a v.b v.first v.second s (ap (λ (p : List ℕ). begins p s) (sym v.pattern) ∙ y))))
+    (λ y. absurd (false_true (sym e ∙ begins_pair v.a v.b v.first v.second s (ap (λ (p : List ℕ). begins p s) (sym v.pattern) ∙ y))))
     (λ n. n)
 
 -- a text without any pair stays
-quiet : (rules : List (List ℕ × List ℕ)) → Rules rules → (s : List ℕ) → ((k : ℕ) → isPair (drop k s) ≡ false) → respell rules s ≡ s
+quiet : (rules : List (List ℕ × List ℕ)) → Rules rules → (s : List ℕ) → ((k : ℕ) → is_pair (drop k s) ≡ false) → respell rules s ≡ s
 quiet [] h s n = refl
-quiet (r ∷ rs) (v, h) s n = ap (respell rs) (replace-none r.0 r.1 s (λ i l. no-pair-begins r v (drop i s) (n i))) ∙ quiet rs h s n
+quiet (r ∷ rs) (v, h) s n = ap (respell rs) (replace_none r.0 r.1 s (λ i l. no_pair_begins r v (drop i s) (n i))) ∙ quiet rs h s n
 
 -- what the first rule that fits makes of two letters
 abbrev replacement : List (List ℕ × List ℕ) → ℕ → ℕ → List ℕ
 replacement [] f g = f ∷ g ∷ []
-replacement (r ∷ rs) f g = pickText (begins r.0 (f ∷ g ∷ [])) r.1 (replacement rs f g)
+replacement (r ∷ rs) f g = pick_text (begins r.0 (f ∷ g ∷ [])) r.1 (replacement rs f g)
 
 module _ (s : List ℕ) (i : ℕ) (h : i + 1 < length s) (before : NoPairIn 0 i s) (after : NoPairIn (i + 1) (length s) s)
     (alone : 0 < i → First (get_or s (i - 1) 0) ≡ false) where
@@ -113,99 +113,99 @@ module _ (s : List ℕ) (i : ℕ) (h : i + 1 < length s) (before : NoPairIn 0 i 
   abbrev put : List ℕ → List ℕ
   put two = take i s ++ (two ++ drop (i + 2) s)
 
-  no-other : (k : ℕ) → (k ≡ i → ⊥) → isPair (drop k s) ≡ false
-  unfolding isPair
-  no-other k n = by-place (dec_le i k) (dec_le (length s) k)
+  no_other : (k : ℕ) → (k ≡ i → ⊥) → is_pair (drop k s) ≡ false
+  unfolding is_pair
+  no_other k n = by_place (dec_le i k) (dec_le (length s) k)
     where
-      by-place : Dec (i ≤ k) → Dec (length s ≤ k) → isPair (drop k s) ≡ false
-      by-place (no l) q = before k (omega arith) (omega arith)
-      by-place (yes l) (no m) = after k (omega arith) (omega arith)
-      by-place (yes l) (yes m) = ap isPair (drop_of_length-le s m)
+      by_place : Dec (i ≤ k) → Dec (length s ≤ k) → is_pair (drop k s) ≡ false
+      by_place (no l) q = before k (omega arith) (omega arith)
+      by_place (yes l) (no m) = after k (omega arith) (omega arith)
+      by_place (yes l) (yes m) = ap is_pair (drop_of_length-le s m)
 
   here : drop i s ≡ f ∷ g ∷ drop (i + 2) s
   here =
       let z : i + 1 + 1 ≡ i + 2 = omega arith in
-      drop-next s i (omega arith) ∙ ap (λ (t : List ℕ). f ∷ t) (drop-next s (i + 1) h ∙ ap (λ (n : ℕ). g ∷ drop n s) z)
+      drop_next s i (omega arith) ∙ ap (λ (t : List ℕ). f ∷ t) (drop_next s (i + 1) h ∙ ap (λ (n : ℕ). g ∷ drop n s) z)
 
-  two-letters : (r : List ℕ × List ℕ) → VowelRule r → begins r.0 (drop i s) ≡ begins r.0 (f ∷ g ∷ [])
+  two_letters : (r : List ℕ × List ℕ) → VowelRule r → begins r.0 (drop i s) ≡ begins r.0 (f ∷ g ∷ [])
   unfolding begins
-  two-letters r v = ap₂ begins v.pattern here ∙ ap (λ (p : List ℕ). begins p (f ∷ g ∷ [])) (sym v.pattern)
+  two_letters r v = ap₂ begins v.pattern here ∙ ap (λ (p : List ℕ). begins p (f ∷ g ∷ [])) (sym v.pattern)
 
   -- the text with a mark at i + 1
   module _ (c m : ℕ) (nf : First m ≡ false) (ng : Second m ≡ false) where
     abbrev changed : List ℕ
     changed = set (set s i c) (i + 1) m
 
-    first-there : i + 1 < length (set s i c)
-    first-there = rw (length-set s i c) h
+    first_there : i + 1 < length (set s i c)
+    first_there = rw (length-set s i c) h
 
-    mark-there : get_or changed (i + 1) 0 ≡ m
-    mark-there = get_or-set_same (set s i c) (i + 1) m 0 first-there
+    mark_there : get_or changed (i + 1) 0 ≡ m
+    mark_there = get_or-set_same (set s i c) (i + 1) m 0 first_there
 
-    other-there : (k : ℕ) → (k ≡ i → ⊥) → (k ≡ i + 1 → ⊥) → get_or changed k 0 ≡ get_or s k 0
-    other-there k n l = get_or-set_other (set s i c) (i + 1) k m 0 l ∙ get_or-set_other s i k c 0 n
+    other_there : (k : ℕ) → (k ≡ i → ⊥) → (k ≡ i + 1 → ⊥) → get_or changed k 0 ≡ get_or s k 0
+    other_there k n l = get_or-set_other (set s i c) (i + 1) k m 0 l ∙ get_or-set_other s i k c 0 n
 
-    none-left : (k : ℕ) → isPair (drop k changed) ≡ false
-    none-left k = pair-at changed k ∙ by-place (ℕ_discrete (k + 1) i) (ℕ_discrete k i) (ℕ_discrete k (i + 1))
+    none_left : (k : ℕ) → is_pair (drop k changed) ≡ false
+    none_left k = pair_at_law changed k ∙ by_place (ℕ_discrete (k + 1) i) (ℕ_discrete k i) (ℕ_discrete k (i + 1))
       where
-        by-place : Dec (k + 1 ≡ i) → Dec (k ≡ i) → Dec (k ≡ i + 1) → (First (get_or changed k 0) && Second (get_or changed (k + 1) 0)) ≡ false
-        by-place (yes e) q r =
+        by_place : Dec (k + 1 ≡ i) → Dec (k ≡ i) → Dec (k ≡ i + 1) → (First (get_or changed k 0) && Second (get_or changed (k + 1) 0)) ≡ false
+        by_place (yes e) q r =
             let z : i - 1 ≡ k = omega arith in
-            and-no _ _ (ap First (other-there k (λ w. omega arith) (λ w. omega arith)) ∙ ap (λ (n : ℕ). First (get_or s n 0)) (sym z) ∙ alone (omega arith))
-        by-place (no e) (yes q) r =
+            and_no _ _ (ap First (other_there k (λ w. omega arith) (λ w. omega arith)) ∙ ap (λ (n : ℕ). First (get_or s n 0)) (sym z) ∙ alone (omega arith))
+        by_place (no e) (yes q) r =
             ap (λ (n : ℕ). First (get_or changed k 0) && Second (get_or changed (n + 1) 0)) q
-            ∙ ap (λ (x : ℕ). First (get_or changed k 0) && Second x) mark-there
+            ∙ ap (λ (x : ℕ). First (get_or changed k 0) && Second x) mark_there
             ∙ ap (λ (b : Bool). First (get_or changed k 0) && b) ng
-            ∙ and-false (First (get_or changed k 0))
-        by-place (no e) (no q) (yes r) = and-no _ _ (ap (λ (n : ℕ). First (get_or changed n 0)) r ∙ ap First mark-there ∙ nf)
-        by-place (no e) (no q) (no r) =
-            ap₂ (λ (x y : ℕ). First x && Second y) (other-there k q r) (other-there (k + 1) e (λ w. omega arith)) ∙ sym (pair-at s k) ∙ no-other k q
+            ∙ and_false (First (get_or changed k 0))
+        by_place (no e) (no q) (yes r) = and_no _ _ (ap (λ (n : ℕ). First (get_or changed n 0)) r ∙ ap First mark_there ∙ nf)
+        by_place (no e) (no q) (no r) =
+            ap₂ (λ (x y : ℕ). First x && Second y) (other_there k q r) (other_there (k + 1) e (λ w. omega arith)) ∙ sym (pair_at_law s k) ∙ no_other k q
 
-  one-rule : (r : List ℕ × List ℕ) (v : VowelRule r) → begins r.0 (drop i s) ≡ true → replaceAll r.0 r.1 s ≡ put r.1
-  one-rule r v e =
+  one_rule : (r : List ℕ × List ℕ) (v : VowelRule r) → begins r.0 (drop i s) ≡ true → replace_all r.0 r.1 s ≡ put r.1
+  one_rule r v e =
       let size : length r.0 ≡ 2 = ap length v.pattern in
       let somewhat : 0 < length r.0 = omega arith in
       let z : i + length r.0 ≡ i + 2 = omega arith in
-      replace-once r.0 r.1 somewhat s i e
-      (λ k l. no-pair-begins r v (drop k s) (no-other k (λ w. omega arith)))
-      (λ k l. no-pair-begins r v (drop k s) (no-other k (λ w. omega arith)))
+      replace_once r.0 r.1 somewhat s i e
+      (λ k l. no_pair_begins r v (drop k s) (no_other k (λ w. omega arith)))
+      (λ k l. no_pair_begins r v (drop k s) (no_other k (λ w. omega arith)))
       ∙ ap (λ (n : ℕ). take i s ++ (r.1 ++ drop n s)) z
 
-  put-changed : (r : List ℕ × List ℕ) (v : VowelRule r) → put r.1 ≡ set (set s i v.c) (i + 1) v.mark
-  put-changed r v = ap put v.result ∙ stored-two s i v.c v.mark h
+  put_changed : (r : List ℕ × List ℕ) (v : VowelRule r) → put r.1 ≡ set (set s i v.c) (i + 1) v.mark
+  put_changed r v = ap put v.result ∙ stored_two s i v.c v.mark h
 
-  put-itself : put (f ∷ g ∷ []) ≡ s
-  put-itself =
-      stored-two s i f g h ∙ ap (λ (t : List ℕ). set t (i + 1) g) (set-get_or s i 0) ∙ set-get_or s (i + 1) 0
+  put_itself : put (f ∷ g ∷ []) ≡ s
+  put_itself =
+      stored_two s i f g h ∙ ap (λ (t : List ℕ). set t (i + 1) g) (set-get_or s i 0) ∙ set-get_or s (i + 1) 0
 
-  pub respell-once : (rules : List (List ℕ × List ℕ)) → Rules rules → respell rules s ≡ put (replacement rules f g)
-  respell-once [] u = sym put-itself
-  respell-once (r ∷ rs) (v, u) =
+  pub respell_once : (rules : List (List ℕ × List ℕ)) → Rules rules → respell rules s ≡ put (replacement rules f g)
+  respell_once [] u = sym put_itself
+  respell_once (r ∷ rs) (v, u) =
       either (begins r.0 (f ∷ g ∷ []))
       (λ e.
-      let same = one-rule r v (two-letters r v ∙ e) ∙ put-changed r v in
+      let same = one_rule r v (two_letters r v ∙ e) ∙ put_changed r v in
       ap (respell rs) same
-      ∙ quiet rs u (set (set s i v.c) (i + 1) v.mark) (none-left v.c v.mark v.not-first v.not-second)
-      ∙ sym (put-changed r v)
-      ∙ sym (ap put (text-yes _ r.1 (replacement rs f g) e)))
+      ∙ quiet rs u (set (set s i v.c) (i + 1) v.mark) (none_left v.c v.mark v.not_first v.not_second)
+      ∙ sym (put_changed r v)
+      ∙ sym (ap put (text_yes _ r.1 (replacement rs f g) e)))
       (λ e.
-      let missed : (k : ℕ) → begins r.0 (drop k s) ≡ false = λ k. by-place k (ℕ_discrete k i) e in
-      ap (respell rs) (replace-none r.0 r.1 s (λ k l. missed k))
-      ∙ respell-once rs u
-      ∙ sym (ap put (text-no _ r.1 (replacement rs f g) e)))
+      let missed : (k : ℕ) → begins r.0 (drop k s) ≡ false = λ k. by_place k (ℕ_discrete k i) e in
+      ap (respell rs) (replace_none r.0 r.1 s (λ k l. missed k))
+      ∙ respell_once rs u
+      ∙ sym (ap put (text_no _ r.1 (replacement rs f g) e)))
     where
-      by-place : (k : ℕ) → Dec (k ≡ i) → begins r.0 (f ∷ g ∷ []) ≡ false → begins r.0 (drop k s) ≡ false
-      by-place k (yes q) e = ap (λ (n : ℕ). begins r.0 (drop n s)) q ∙ two-letters r v ∙ e
-      by-place k (no q) e = no-pair-begins r v (drop k s) (no-other k q)
+      by_place : (k : ℕ) → Dec (k ≡ i) → begins r.0 (f ∷ g ∷ []) ≡ false → begins r.0 (drop k s) ≡ false
+      by_place k (yes q) e = ap (λ (n : ℕ). begins r.0 (drop n s)) q ∙ two_letters r v ∙ e
+      by_place k (no q) e = no_pair_begins r v (drop k s) (no_other k q)
 
 -- the sixteen vowel rules are such rules
 rule : (a b c m : ℕ) → First a ≡ true → Second b ≡ true → First m ≡ false → Second m ≡ false → VowelRule (a ∷ b ∷ [], c ∷ m ∷ [])
 rule a b c m e f g h =
-    record { a = a; b = b; c = c; mark = m; pattern = refl; result = refl; first = e; second = f; not-first = g; not-second = h }
+    record { a = a; b = b; c = c; mark = m; pattern = refl; result = refl; first = e; second = f; not_first = g; not_second = h }
 
-vowel-rules : Rules vowelRules
+vowel_rules_law : Rules vowel_rules
 unfolding listed
-vowel-rules = (
+vowel_rules_law = (
   rule 0x6F 0x75 0x6F 0x0358 refl refl refl refl,
   (
     rule 0x6F 0x55 0x6F 0x0358 refl refl refl refl,
@@ -244,21 +244,21 @@ vowel-rules = (
 )
 
 -- one of four letters
-one-of : (a b c d x : ℕ) → listed (a ∷ b ∷ c ∷ d ∷ []) x ≡ true → (x ≡ a) ⊎ ((x ≡ b) ⊎ ((x ≡ c) ⊎ (x ≡ d)))
+one_of : (a b c d x : ℕ) → listed (a ∷ b ∷ c ∷ d ∷ []) x ≡ true → (x ≡ a) ⊎ ((x ≡ b) ⊎ ((x ≡ c) ⊎ (x ≡ d)))
 unfolding listed
-one-of a b c d x e =
+one_of a b c d x e =
     either (eqb a x) (λ y. inl (sym (eqb-true a x y)))
     (λ n. either (eqb b x) (λ y. inr (inl (sym (eqb-true b x y))))
     (λ m. either (eqb c x) (λ y. inr (inr (inl (sym (eqb-true c x y)))))
     (λ l. either (eqb d x) (λ y. inr (inr (inr (sym (eqb-true d x y)))))
-    (λ k. absurd (false-true (sym (or-no _ _ n ∙ or-no _ _ m ∙ or-no _ _ l ∙ or-no _ _ k) ∙ e))))))
+    (λ k. absurd (false_true (sym (or_no _ _ n ∙ or_no _ _ m ∙ or_no _ _ l ∙ or_no _ _ k) ∙ e))))))
 
 abbrev Pairs : (ℕ → ℕ → List ℕ) → ℕ → ℕ → Type 0
-Pairs result x y = replacement vowelRules x y ≡ result x y
+Pairs result x y = replacement vowel_rules x y ≡ result x y
 
 -- what holds behind each second letter holds behind any
-by-second : (result : ℕ → ℕ → List ℕ) (x y : ℕ) → Second y ≡ true → Pairs result x 0x6F → Pairs result x 0x4F → Pairs result x 0x75 → Pairs result x 0x55 → Pairs result x y
-by-second result x y e o O u U = go (one-of 0x6F 0x4F 0x75 0x55 y e)
+by_second : (result : ℕ → ℕ → List ℕ) (x y : ℕ) → Second y ≡ true → Pairs result x 0x6F → Pairs result x 0x4F → Pairs result x 0x75 → Pairs result x 0x55 → Pairs result x y
+by_second result x y e o O u U = go (one_of 0x6F 0x4F 0x75 0x55 y e)
   where
     go : (y ≡ 0x6F) ⊎ ((y ≡ 0x4F) ⊎ ((y ≡ 0x75) ⊎ (y ≡ 0x55))) → Pairs result x y
     go (inl z) = subst (Pairs result x) (sym z) o
@@ -266,79 +266,79 @@ by-second result x y e o O u U = go (one-of 0x6F 0x4F 0x75 0x55 y e)
     go (inr (inr (inl z))) = subst (Pairs result x) (sym z) u
     go (inr (inr (inr z))) = subst (Pairs result x) (sym z) U
 
-abbrev dotted-o : ℕ → ℕ → List ℕ
-dotted-o x y = x ∷ 0x0358 ∷ []
+abbrev dotted_o : ℕ → ℕ → List ℕ
+dotted_o x y = x ∷ 0x0358 ∷ []
 
-abbrev below-e : ℕ → ℕ → List ℕ
-below-e x y = y ∷ 0x0324 ∷ []
+abbrev below_e : ℕ → ℕ → List ℕ
+below_e x y = y ∷ 0x0324 ∷ []
 
-o-pairs : (x y : ℕ) → (x ≡ 0x4F) ⊎ (x ≡ 0x6F) → Second y ≡ true → Pairs dotted-o x y
+o_pairs_law : (x y : ℕ) → (x ≡ 0x4F) ⊎ (x ≡ 0x6F) → Second y ≡ true → Pairs dotted_o x y
 unfolding begins
-o-pairs x y (inl z) e = subst (λ (w : ℕ). Pairs dotted-o w y) (sym z) (by-second dotted-o 0x4F y e refl refl refl refl)
-o-pairs x y (inr z) e = subst (λ (w : ℕ). Pairs dotted-o w y) (sym z) (by-second dotted-o 0x6F y e refl refl refl refl)
+o_pairs_law x y (inl z) e = subst (λ (w : ℕ). Pairs dotted_o w y) (sym z) (by_second dotted_o 0x4F y e refl refl refl refl)
+o_pairs_law x y (inr z) e = subst (λ (w : ℕ). Pairs dotted_o w y) (sym z) (by_second dotted_o 0x6F y e refl refl refl refl)
 
-e-pairs : (x y : ℕ) → First x ≡ true → ((x ≡ 0x4F) ⊎ (x ≡ 0x6F) → ⊥) → Second y ≡ true → Pairs below-e x y
+e_pairs_law : (x y : ℕ) → First x ≡ true → ((x ≡ 0x4F) ⊎ (x ≡ 0x6F) → ⊥) → Second y ≡ true → Pairs below_e x y
 unfolding begins
-e-pairs x y f n e = go (one-of 0x6F 0x4F 0x65 0x45 x f)
+e_pairs_law x y f n e = go (one_of 0x6F 0x4F 0x65 0x45 x f)
   where
-    go : (x ≡ 0x6F) ⊎ ((x ≡ 0x4F) ⊎ ((x ≡ 0x65) ⊎ (x ≡ 0x45))) → Pairs below-e x y
+    go : (x ≡ 0x6F) ⊎ ((x ≡ 0x4F) ⊎ ((x ≡ 0x65) ⊎ (x ≡ 0x45))) → Pairs below_e x y
     go (inl z) = absurd (n (inr z))
     go (inr (inl z)) = absurd (n (inl z))
-    go (inr (inr (inl z))) = subst (λ (w : ℕ). Pairs below-e w y) (sym z) (by-second below-e 0x65 y e refl refl refl refl)
-    go (inr (inr (inr z))) = subst (λ (w : ℕ). Pairs below-e w y) (sym z) (by-second below-e 0x45 y e refl refl refl refl)
+    go (inr (inr (inl z))) = subst (λ (w : ℕ). Pairs below_e w y) (sym z) (by_second below_e 0x65 y e refl refl refl refl)
+    go (inr (inr (inr z))) = subst (λ (w : ℕ). Pairs below_e w y) (sym z) (by_second below_e 0x45 y e refl refl refl refl)
 
 -- what the code stores
-module _ (s : List ℕ) (i : ℕ) (pair : isPair (drop i s) ≡ true) (before : NoPairIn 0 i s) (after : NoPairIn (i + 1) (length s) s)
+module _ (s : List ℕ) (i : ℕ) (pair : is_pair (drop i s) ≡ true) (before : NoPairIn 0 i s) (after : NoPairIn (i + 1) (length s) s)
     (alone : 0 < i → First (get_or s (i - 1) 0) ≡ false) where
   both : (First (get_or s i 0) && Second (get_or s (i + 1) 0)) ≡ true
-  both = sym (pair-at s i) ∙ pair
+  both = sym (pair_at_law s i) ∙ pair
 
   -- the second letter stands in the text
-  pub pair-fits : i + 1 < length s
+  pub pair_fits : i + 1 < length s
   unfolding listed
-  pair-fits = by-end (dec_le (length s) (i + 1))
+  pair_fits = by_end (dec_le (length s) (i + 1))
     where
-      by-end : Dec (length s ≤ i + 1) → i + 1 < length s
-      by-end (yes h) =
-          absurd (false-true (sym (ap Second (get_or-eq_default s 0 h)) ∙ and-right (First (get_or s i 0)) (Second (get_or s (i + 1) 0)) both))
-      by-end (no h) = omega arith
+      by_end : Dec (length s ≤ i + 1) → i + 1 < length s
+      by_end (yes h) =
+          absurd (false_true (sym (ap Second (get_or-eq_default s 0 h)) ∙ and_right (First (get_or s i 0)) (Second (get_or s (i + 1) 0)) both))
+      by_end (no h) = omega arith
 
-  pub vowels-o : (get_or s i 0 ≡ 0x4F) ⊎ (get_or s i 0 ≡ 0x6F) → respell vowelRules s ≡ set s (i + 1) 0x0358
-  vowels-o e =
-      respell-once s i pair-fits before after alone vowelRules vowel-rules
-      ∙ ap (λ (t : List ℕ). take i s ++ (t ++ drop (i + 2) s)) (o-pairs (get_or s i 0) (get_or s (i + 1) 0) e (and-right (First (get_or s i 0)) (Second (get_or s (i + 1) 0)) both))
-      ∙ stored-two s i (get_or s i 0) 0x0358 pair-fits
+  pub vowels_o : (get_or s i 0 ≡ 0x4F) ⊎ (get_or s i 0 ≡ 0x6F) → respell vowel_rules s ≡ set s (i + 1) 0x0358
+  vowels_o e =
+      respell_once s i pair_fits before after alone vowel_rules vowel_rules_law
+      ∙ ap (λ (t : List ℕ). take i s ++ (t ++ drop (i + 2) s)) (o_pairs_law (get_or s i 0) (get_or s (i + 1) 0) e (and_right (First (get_or s i 0)) (Second (get_or s (i + 1) 0)) both))
+      ∙ stored_two s i (get_or s i 0) 0x0358 pair_fits
       ∙ ap (λ (t : List ℕ). set t (i + 1) 0x0358) (set-get_or s i 0)
 
-  pub vowels-e : ((get_or s i 0 ≡ 0x4F) ⊎ (get_or s i 0 ≡ 0x6F) → ⊥) → respell vowelRules s ≡ set (set s i (get_or s (i + 1) 0)) (i + 1) 0x0324
-  vowels-e n =
-      respell-once s i pair-fits before after alone vowelRules vowel-rules
+  pub vowels_e : ((get_or s i 0 ≡ 0x4F) ⊎ (get_or s i 0 ≡ 0x6F) → ⊥) → respell vowel_rules s ≡ set (set s i (get_or s (i + 1) 0)) (i + 1) 0x0324
+  vowels_e n =
+      respell_once s i pair_fits before after alone vowel_rules vowel_rules_law
       ∙ ap (λ (t : List ℕ). take i s ++ (t ++ drop (i + 2) s))
-      (e-pairs (get_or s i 0) (get_or s (i + 1) 0) (and-left (First (get_or s i 0)) (Second (get_or s (i + 1) 0)) both) n (and-right (First (get_or s i 0)) (Second (get_or s (i + 1) 0)) both))
-      ∙ stored-two s i (get_or s (i + 1) 0) 0x0324 pair-fits
+      (e_pairs_law (get_or s i 0) (get_or s (i + 1) 0) (and_left (First (get_or s i 0)) (Second (get_or s (i + 1) 0)) both) n (and_right (First (get_or s i 0)) (Second (get_or s (i + 1) 0)) both))
+      ∙ stored_two s i (get_or s (i + 1) 0) 0x0324 pair_fits
 
 -- a text without a pair
-pub vowels-none : (s : List ℕ) → NoPairIn 0 (length s) s → respell vowelRules s ≡ s
-unfolding isPair
-vowels-none s n = quiet vowelRules vowel-rules s (λ k. by-end k (dec_le (length s) k))
+pub vowels_none : (s : List ℕ) → NoPairIn 0 (length s) s → respell vowel_rules s ≡ s
+unfolding is_pair
+vowels_none s n = quiet vowel_rules vowel_rules_law s (λ k. by_end k (dec_le (length s) k))
   where
-    by-end : (k : ℕ) → Dec (length s ≤ k) → isPair (drop k s) ≡ false
-    by-end k (yes h) = ap isPair (drop_of_length-le s h)
-    by-end k (no h) = n k (omega arith) (omega arith)
+    by_end : (k : ℕ) → Dec (length s ≤ k) → is_pair (drop k s) ≡ false
+    by_end k (yes h) = ap is_pair (drop_of_length-le s h)
+    by_end k (no h) = n k (omega arith) (omega arith)
 
 -- ── nn at the end only
 abbrev IsN : ℕ → Bool
 IsN x = eqb (lower x) (point "n")
 
-nasal-first : (s : List ℕ) → isNasalPair s ≡ (IsN (get_or s 0 0) && IsN (get_or s 1 0))
-unfolding isNasalPair lower
-nasal-first [] = refl
-nasal-first (x ∷ s) = refl
+nasal_first : (s : List ℕ) → is_nasal_pair s ≡ (IsN (get_or s 0 0) && IsN (get_or s 1 0))
+unfolding is_nasal_pair lower
+nasal_first [] = refl
+nasal_first (x ∷ s) = refl
 
-pub nasal-at : (s : List ℕ) (k : ℕ) → isNasalPair (drop k s) ≡ (IsN (get_or s k 0) && IsN (get_or s (k + 1) 0))
-nasal-at s k =
+pub nasal_at : (s : List ℕ) (k : ℕ) → is_nasal_pair (drop k s) ≡ (IsN (get_or s k 0) && IsN (get_or s (k + 1) 0))
+nasal_at s k =
     let z : k + 0 ≡ k = omega arith in
-    nasal-first (drop k s) ∙ ap₂ (λ (x y : ℕ). IsN x && IsN y) (get_or-drop k s 0 0 ∙ ap (λ (n : ℕ). get_or s n 0) z) (get_or-drop k s 1 0)
+    nasal_first (drop k s) ∙ ap₂ (λ (x y : ℕ). IsN x && IsN y) (get_or-drop k s 0 0 ∙ ap (λ (n : ℕ). get_or s n 0) z) (get_or-drop k s 1 0)
 
 -- a rule for two letters n, whose replacement is one code point and no n
 pub record NasalRule (r : List ℕ × List ℕ) : Type 0 where
@@ -355,24 +355,24 @@ abbrev Nasals : List (List ℕ × List ℕ) → Type 0
 Nasals [] = Unit {0}
 Nasals (r ∷ rs) = NasalRule r × Nasals rs
 
-begins-nasal : (a b : ℕ) → IsN a ≡ true → IsN b ≡ true → (s : List ℕ) → begins (a ∷ b ∷ []) s ≡ true → isNasalPair s ≡ true
-unfolding begins isNasalPair
-begins-nasal a b f g [] e = absurd (false-true e)
-begins-nasal a b f g (x ∷ []) e = absurd (false-true (sym (and-false (eqb x a)) ∙ e))
-begins-nasal a b f g (x ∷ (y ∷ s)) e =
-    let x-is = eqb-true x a (and-left (eqb x a) (eqb y b && true) e) in
-    let y-is = eqb-true y b (and-left (eqb y b) true (and-right (eqb x a) (eqb y b && true) e)) in
-    and-yes _ _ (ap IsN x-is ∙ f) ∙ ap IsN y-is ∙ g
+begins_nasal : (a b : ℕ) → IsN a ≡ true → IsN b ≡ true → (s : List ℕ) → begins (a ∷ b ∷ []) s ≡ true → is_nasal_pair s ≡ true
+unfolding begins is_nasal_pair
+begins_nasal a b f g [] e = absurd (false_true e)
+begins_nasal a b f g (x ∷ []) e = absurd (false_true (sym (and_false (eqb x a)) ∙ e))
+begins_nasal a b f g (x ∷ (y ∷ s)) e =
+    let x-is = eqb-true x a (and_left (eqb x a) (eqb y b && true) e) in
+    let y-is = eqb-true y b (and_left (eqb y b) true (and_right (eqb x a) (eqb y b && true) e)) in
+    and_yes _ _ (ap IsN x-is ∙ f) ∙ ap IsN y-is ∙ g
 
-no-nasal-begins : (r : List ℕ × List ℕ) → NasalRule r → (s : List ℕ) → isNasalPair s ≡ false → begins r.0 s ≡ false
-no-nasal-begins r v s e =
+no_nasal_begins : (r : List ℕ × List ℕ) → NasalRule r → (s : List ℕ) → is_nasal_pair s ≡ false → begins r.0 s ≡ false
+no_nasal_begins r v s e =
     either (begins r.0 s)
-    (λ y. absurd (false-true (sym e ∙ begins-nasal v.a v.b v.first v.second s (ap (λ (p : List ℕ). begins p s) (sym v.pattern) ∙ y))))
+    (λ y. absurd (false_true (sym e ∙ begins_nasal v.a v.b v.first v.second s (ap (λ (p : List ℕ). begins p s) (sym v.pattern) ∙ y))))
     (λ n. n)
 
-quiet-nasals : (rules : List (List ℕ × List ℕ)) → Nasals rules → (s : List ℕ) → ((k : ℕ) → isNasalPair (drop k s) ≡ false) → respell rules s ≡ s
-quiet-nasals [] h s n = refl
-quiet-nasals (r ∷ rs) (v, h) s n = ap (respell rs) (replace-none r.0 r.1 s (λ i l. no-nasal-begins r v (drop i s) (n i))) ∙ quiet-nasals rs h s n
+quiet_nasals : (rules : List (List ℕ × List ℕ)) → Nasals rules → (s : List ℕ) → ((k : ℕ) → is_nasal_pair (drop k s) ≡ false) → respell rules s ≡ s
+quiet_nasals [] h s n = refl
+quiet_nasals (r ∷ rs) (v, h) s n = ap (respell rs) (replace_none r.0 r.1 s (λ i l. no_nasal_begins r v (drop i s) (n i))) ∙ quiet_nasals rs h s n
 
 module _ (s : List ℕ) (i : ℕ) (h : i + 2 ≡ length s) (before : NoNasalBefore s) where
   abbrev x : ℕ
@@ -381,20 +381,20 @@ module _ (s : List ℕ) (i : ℕ) (h : i + 2 ≡ length s) (before : NoNasalBefo
   abbrev y : ℕ
   y = get_or s (i + 1) 0
 
-  other-nasal : (k : ℕ) → (k ≡ i → ⊥) → isNasalPair (drop k s) ≡ false
+  other_nasal : (k : ℕ) → (k ≡ i → ⊥) → is_nasal_pair (drop k s) ≡ false
   unfolding lower
-  other-nasal k n = by-end (dec_le (i + 1) k)
+  other_nasal k n = by_end (dec_le (i + 1) k)
     where
-      by-end : Dec (i + 1 ≤ k) → isNasalPair (drop k s) ≡ false
-      by-end (yes l) =
+      by_end : Dec (i + 1 ≤ k) → is_nasal_pair (drop k s) ≡ false
+      by_end (yes l) =
           let beyond : length s ≤ k + 1 = omega arith in
-          nasal-at s k ∙ ap (λ (z : ℕ). IsN (get_or s k 0) && IsN z) (get_or-eq_default s 0 beyond) ∙ and-false (IsN (get_or s k 0))
-      by-end (no l) = before k (omega arith)
+          nasal_at s k ∙ ap (λ (z : ℕ). IsN (get_or s k 0) && IsN z) (get_or-eq_default s 0 beyond) ∙ and_false (IsN (get_or s k 0))
+      by_end (no l) = before k (omega arith)
 
-  end-is : drop i s ≡ x ∷ y ∷ []
-  end-is =
+  end_is : drop i s ≡ x ∷ y ∷ []
+  end_is =
       let z : length s ≤ i + 1 + 1 = omega arith in
-      drop-next s i (omega arith) ∙ ap (λ (t : List ℕ). x ∷ t) (drop-next s (i + 1) (omega arith) ∙ ap (λ (t : List ℕ). y ∷ t) (drop_of_length-le s z))
+      drop_next s i (omega arith) ∙ ap (λ (t : List ℕ). x ∷ t) (drop_next s (i + 1) (omega arith) ∙ ap (λ (t : List ℕ). y ∷ t) (drop_of_length-le s z))
 
   module _ (sign : ℕ) (other : IsN sign ≡ false) where
     abbrev signed : List ℕ
@@ -403,137 +403,137 @@ module _ (s : List ℕ) (i : ℕ) (h : i + 2 ≡ length s) (before : NoNasalBefo
     size : length (take i s) ≡ i
     size = length-take-le i s (omega arith)
 
-    sign-there : get_or signed i 0 ≡ sign
-    sign-there = ap (λ (n : ℕ). get_or signed n 0) (sym size) ∙ at-seam (take i s)
+    sign_there : get_or signed i 0 ≡ sign
+    sign_there = ap (λ (n : ℕ). get_or signed n 0) (sym size) ∙ at_seam (take i s)
       where
-        at-seam : (l : List ℕ) → get_or (l ++ (sign ∷ [])) (length l) 0 ≡ sign
-        at-seam [] = refl
-        at-seam (z ∷ l) = at-seam l
+        at_seam : (l : List ℕ) → get_or (l ++ (sign ∷ [])) (length l) 0 ≡ sign
+        at_seam [] = refl
+        at_seam (z ∷ l) = at_seam l
 
-    front-there : (k : ℕ) → k < i → get_or signed k 0 ≡ get_or s k 0
-    front-there k l = get_or-append (take i s) (sign ∷ []) 0 k (rw size l) ∙ get_or-take i s k 0 l
+    front_there : (k : ℕ) → k < i → get_or signed k 0 ≡ get_or s k 0
+    front_there k l = get_or-append (take i s) (sign ∷ []) 0 k (rw size l) ∙ get_or-take i s k 0 l
 
-    none-there : (k : ℕ) → i < k → get_or signed k 0 ≡ 0
-    none-there k l = get_or-eq_default signed 0 (omega (arith, length-append (take i s) (sign ∷ []), size))
+    none_there : (k : ℕ) → i < k → get_or signed k 0 ≡ 0
+    none_there k l = get_or-eq_default signed 0 (omega (arith, length-append (take i s) (sign ∷ []), size))
 
-    none-signed : (k : ℕ) → isNasalPair (drop k signed) ≡ false
+    none_signed : (k : ℕ) → is_nasal_pair (drop k signed) ≡ false
     unfolding lower
-    none-signed k = nasal-at signed k ∙ by-place (dec_le i k) (ℕ_discrete k i) (ℕ_discrete (k + 1) i)
+    none_signed k = nasal_at signed k ∙ by_place (dec_le i k) (ℕ_discrete k i) (ℕ_discrete (k + 1) i)
       where
-        by-place : Dec (i ≤ k) → Dec (k ≡ i) → Dec (k + 1 ≡ i) → (IsN (get_or signed k 0) && IsN (get_or signed (k + 1) 0)) ≡ false
-        by-place (yes l) (yes e) r = and-no _ _ (ap (λ (n : ℕ). IsN (get_or signed n 0)) e ∙ ap IsN sign-there ∙ other)
-        by-place (yes l) (no e) r = and-no _ _ (ap IsN (none-there k (omega arith)))
-        by-place (no l) q (yes e) =
+        by_place : Dec (i ≤ k) → Dec (k ≡ i) → Dec (k + 1 ≡ i) → (IsN (get_or signed k 0) && IsN (get_or signed (k + 1) 0)) ≡ false
+        by_place (yes l) (yes e) r = and_no _ _ (ap (λ (n : ℕ). IsN (get_or signed n 0)) e ∙ ap IsN sign_there ∙ other)
+        by_place (yes l) (no e) r = and_no _ _ (ap IsN (none_there k (omega arith)))
+        by_place (no l) q (yes e) =
             ap (λ (n : ℕ). IsN (get_or signed k 0) && IsN (get_or signed n 0)) e
-            ∙ ap (λ (z : ℕ). IsN (get_or signed k 0) && IsN z) sign-there
+            ∙ ap (λ (z : ℕ). IsN (get_or signed k 0) && IsN z) sign_there
             ∙ ap (λ (b : Bool). IsN (get_or signed k 0) && b) other
-            ∙ and-false (IsN (get_or signed k 0))
-        by-place (no l) q (no e) =
-            ap₂ (λ (u v : ℕ). IsN u && IsN v) (front-there k (omega arith)) (front-there (k + 1) (omega arith)) ∙ sym (nasal-at s k) ∙ before k (omega arith)
+            ∙ and_false (IsN (get_or signed k 0))
+        by_place (no l) q (no e) =
+            ap₂ (λ (u v : ℕ). IsN u && IsN v) (front_there k (omega arith)) (front_there (k + 1) (omega arith)) ∙ sym (nasal_at s k) ∙ before k (omega arith)
 
-  nasal-rule : (r : List ℕ × List ℕ) (v : NasalRule r) → begins r.0 (x ∷ y ∷ []) ≡ true → replaceAll r.0 r.1 s ≡ take i s ++ r.1
-  nasal-rule r v e =
+  nasal_rule : (r : List ℕ × List ℕ) (v : NasalRule r) → begins r.0 (x ∷ y ∷ []) ≡ true → replace_all r.0 r.1 s ≡ take i s ++ r.1
+  nasal_rule r v e =
       let two : length r.0 ≡ 2 = ap length v.pattern in
       let somewhat : 0 < length r.0 = omega arith in
       let past : length s ≤ i + length r.0 = omega arith in
-      replace-once r.0 r.1 somewhat s i (ap (begins r.0) end-is ∙ e)
-      (λ k l. no-nasal-begins r v (drop k s) (other-nasal k (λ w. omega arith)))
-      (λ k l. no-nasal-begins r v (drop k s) (other-nasal k (λ w. omega arith)))
+      replace_once r.0 r.1 somewhat s i (ap (begins r.0) end_is ∙ e)
+      (λ k l. no_nasal_begins r v (drop k s) (other_nasal k (λ w. omega arith)))
+      (λ k l. no_nasal_begins r v (drop k s) (other_nasal k (λ w. omega arith)))
       ∙ ap (λ (t : List ℕ). take i s ++ (r.1 ++ t)) (drop_of_length-le s past)
       ∙ ap (λ (t : List ℕ). take i s ++ t) (ap (λ (t : List ℕ). t ++ []) v.result ∙ sym v.result)
 
-  pub respell-end : (rules : List (List ℕ × List ℕ)) → Nasals rules → respell rules s ≡ take i s ++ replacement rules x y
-  respell-end [] u = sym (split-end s i)
+  pub respell_end : (rules : List (List ℕ × List ℕ)) → Nasals rules → respell rules s ≡ take i s ++ replacement rules x y
+  respell_end [] u = sym (split_end s i)
     where
-      split-end : (l : List ℕ) (n : ℕ) → take i s ++ (x ∷ y ∷ []) ≡ s
-      split-end l n = ap (λ (t : List ℕ). take i s ++ t) (sym end-is) ∙ take-append-drop i s
-  respell-end (r ∷ rs) (v, u) =
+      split_end : (l : List ℕ) (n : ℕ) → take i s ++ (x ∷ y ∷ []) ≡ s
+      split_end l n = ap (λ (t : List ℕ). take i s ++ t) (sym end_is) ∙ take-append-drop i s
+  respell_end (r ∷ rs) (v, u) =
       either (begins r.0 (x ∷ y ∷ []))
       (λ e.
-      let same = nasal-rule r v e ∙ ap (λ (t : List ℕ). take i s ++ t) v.result in
+      let same = nasal_rule r v e ∙ ap (λ (t : List ℕ). take i s ++ t) v.result in
       ap (respell rs) same
-      ∙ quiet-nasals rs u (take i s ++ (v.sign ∷ [])) (none-signed v.sign v.other)
-      ∙ ap (λ (t : List ℕ). take i s ++ t) (sym v.result ∙ sym (text-yes _ r.1 (replacement rs x y) e)))
+      ∙ quiet_nasals rs u (take i s ++ (v.sign ∷ [])) (none_signed v.sign v.other)
+      ∙ ap (λ (t : List ℕ). take i s ++ t) (sym v.result ∙ sym (text_yes _ r.1 (replacement rs x y) e)))
       (λ e.
-      ap (respell rs) (replace-none r.0 r.1 s (λ k l. by-place k (ℕ_discrete k i) e))
-      ∙ respell-end rs u
-      ∙ ap (λ (t : List ℕ). take i s ++ t) (sym (text-no _ r.1 (replacement rs x y) e)))
+      ap (respell rs) (replace_none r.0 r.1 s (λ k l. by_place k (ℕ_discrete k i) e))
+      ∙ respell_end rs u
+      ∙ ap (λ (t : List ℕ). take i s ++ t) (sym (text_no _ r.1 (replacement rs x y) e)))
     where
-      by-place : (k : ℕ) → Dec (k ≡ i) → begins r.0 (x ∷ y ∷ []) ≡ false → begins r.0 (drop k s) ≡ false
-      by-place k (yes q) e = ap (λ (n : ℕ). begins r.0 (drop n s)) q ∙ ap (begins r.0) end-is ∙ e
-      by-place k (no q) e = no-nasal-begins r v (drop k s) (other-nasal k q)
+      by_place : (k : ℕ) → Dec (k ≡ i) → begins r.0 (x ∷ y ∷ []) ≡ false → begins r.0 (drop k s) ≡ false
+      by_place k (yes q) e = ap (λ (n : ℕ). begins r.0 (drop n s)) q ∙ ap (begins r.0) end_is ∙ e
+      by_place k (no q) e = no_nasal_begins r v (drop k s) (other_nasal k q)
 
 nasal : (a b c : ℕ) → IsN a ≡ true → IsN b ≡ true → IsN c ≡ false → NasalRule (a ∷ b ∷ [], c ∷ [])
 nasal a b c e f g = record { a = a; b = b; sign = c; pattern = refl; result = refl; first = e; second = f; other = g }
 
-nasal-rules : Nasals nasalRules
+nasal_rules_law : Nasals nasal_rules
 unfolding lower
-nasal-rules =
+nasal_rules_law =
     (nasal 0x6E 0x6E 0x207F refl refl refl, (nasal 0x6E 0x4E 0x207F refl refl refl, (nasal 0x4E 0x6E 0x207F refl refl refl, (nasal 0x4E 0x4E 0x1D3A refl refl refl, tt))))
 
-is-n : (x : ℕ) → IsN x ≡ true → (x ≡ 0x6E) ⊎ (x ≡ 0x4E)
+is_n : (x : ℕ) → IsN x ≡ true → (x ≡ 0x6E) ⊎ (x ≡ 0x4E)
 unfolding lower
-is-n x e =
+is_n x e =
     either (within 65 90 x)
-    (λ y. let z : x + 32 ≡ 0x6E = sym (number-yes (within 65 90 x) (x + 32) x y) ∙ eqb-true (lower x) 0x6E e in inr (omega arith))
-    (λ n. inl (sym (number-no (within 65 90 x) (x + 32) x n) ∙ eqb-true (lower x) 0x6E e))
+    (λ y. let z : x + 32 ≡ 0x6E = sym (number_yes (within 65 90 x) (x + 32) x y) ∙ eqb-true (lower x) 0x6E e in inr (omega arith))
+    (λ n. inl (sym (number_no (within 65 90 x) (x + 32) x n) ∙ eqb-true (lower x) 0x6E e))
 
 abbrev Signs : ℕ → ℕ → ℕ → Type 0
-Signs sign x y = replacement nasalRules x y ≡ sign ∷ []
+Signs sign x y = replacement nasal_rules x y ≡ sign ∷ []
 
-nasal-capital : (x y : ℕ) → x ≡ 0x4E → y ≡ 0x4E → Signs 0x1D3A x y
+nasal_capital : (x y : ℕ) → x ≡ 0x4E → y ≡ 0x4E → Signs 0x1D3A x y
 unfolding begins
-nasal-capital x y e f = subst (λ (z : ℕ). Signs 0x1D3A z y) (sym e) (subst (Signs 0x1D3A 0x4E) (sym f) refl)
+nasal_capital x y e f = subst (λ (z : ℕ). Signs 0x1D3A z y) (sym e) (subst (Signs 0x1D3A 0x4E) (sym f) refl)
 
-nasal-small : (x y : ℕ) → (x ≡ 0x6E) ⊎ (x ≡ 0x4E) → (y ≡ 0x6E) ⊎ (y ≡ 0x4E) → (y ≡ 0x4E → x ≡ 0x4E → ⊥) → Signs 0x207F x y
+nasal_small : (x y : ℕ) → (x ≡ 0x6E) ⊎ (x ≡ 0x4E) → (y ≡ 0x6E) ⊎ (y ≡ 0x4E) → (y ≡ 0x4E → x ≡ 0x4E → ⊥) → Signs 0x207F x y
 unfolding begins
-nasal-small x y (inl e) (inl f) n = subst (λ (z : ℕ). Signs 0x207F z y) (sym e) (subst (Signs 0x207F 0x6E) (sym f) refl)
-nasal-small x y (inl e) (inr f) n = subst (λ (z : ℕ). Signs 0x207F z y) (sym e) (subst (Signs 0x207F 0x6E) (sym f) refl)
-nasal-small x y (inr e) (inl f) n = subst (λ (z : ℕ). Signs 0x207F z y) (sym e) (subst (Signs 0x207F 0x4E) (sym f) refl)
-nasal-small x y (inr e) (inr f) n = absurd (n f e)
+nasal_small x y (inl e) (inl f) n = subst (λ (z : ℕ). Signs 0x207F z y) (sym e) (subst (Signs 0x207F 0x6E) (sym f) refl)
+nasal_small x y (inl e) (inr f) n = subst (λ (z : ℕ). Signs 0x207F z y) (sym e) (subst (Signs 0x207F 0x6E) (sym f) refl)
+nasal_small x y (inr e) (inl f) n = subst (λ (z : ℕ). Signs 0x207F z y) (sym e) (subst (Signs 0x207F 0x4E) (sym f) refl)
+nasal_small x y (inr e) (inr f) n = absurd (n f e)
 
-module _ (s : List ℕ) (e : endsNasal s ≡ true) where
-  pub nasal-three : 3 ≤ length s
-  nasal-three = by-length (dec_le 3 (length s))
+module _ (s : List ℕ) (e : ends_nasal s ≡ true) where
+  pub nasal_three : 3 ≤ length s
+  nasal_three = by_length (dec_le 3 (length s))
     where
-      by-length : Dec (3 ≤ length s) → 3 ≤ length s
-      by-length (yes h) = h
-      by-length (no h) = absurd (false-true (sym (nasal-short s (omega arith)) ∙ e))
+      by_length : Dec (3 ≤ length s) → 3 ≤ length s
+      by_length (yes h) = h
+      by_length (no h) = absurd (false_true (sym (nasal_short s (omega arith)) ∙ e))
 
   abbrev i : ℕ
   i = length s - 2
 
   tests : (listed (marked "aeiouptkhm" 0x0358) (lower (get_or s (length s - 3) 0)) && IsN (get_or s i 0) && IsN (get_or s (length s - 1) 0)) ≡ true
-  tests = sym (nasal-read s nasal-three) ∙ e
+  tests = sym (nasal_read s nasal_three) ∙ e
 
-  last-n : IsN (get_or s (length s - 1) 0) ≡ true
-  last-n = and-right (listed (marked "aeiouptkhm" 0x0358) (lower (get_or s (length s - 3) 0)) && IsN (get_or s i 0)) (IsN (get_or s (length s - 1) 0)) tests
+  last_n : IsN (get_or s (length s - 1) 0) ≡ true
+  last_n = and_right (listed (marked "aeiouptkhm" 0x0358) (lower (get_or s (length s - 3) 0)) && IsN (get_or s i 0)) (IsN (get_or s (length s - 1) 0)) tests
 
-  second-n : IsN (get_or s i 0) ≡ true
-  second-n =
-      and-right (listed (marked "aeiouptkhm" 0x0358) (lower (get_or s (length s - 3) 0))) (IsN (get_or s i 0))
-      (and-left (listed (marked "aeiouptkhm" 0x0358) (lower (get_or s (length s - 3) 0)) && IsN (get_or s i 0)) (IsN (get_or s (length s - 1) 0)) tests)
+  second_n : IsN (get_or s i 0) ≡ true
+  second_n =
+      and_right (listed (marked "aeiouptkhm" 0x0358) (lower (get_or s (length s - 3) 0))) (IsN (get_or s i 0))
+      (and_left (listed (marked "aeiouptkhm" 0x0358) (lower (get_or s (length s - 3) 0)) && IsN (get_or s i 0)) (IsN (get_or s (length s - 1) 0)) tests)
 
   place : i + 2 ≡ length s
-  place = omega (arith, nasal-three)
+  place = omega (arith, nasal_three)
 
   behind : get_or s (i + 1) 0 ≡ get_or s (length s - 1) 0
-  behind = let z : i + 1 ≡ length s - 1 = omega (arith, nasal-three) in ap (λ (n : ℕ). get_or s n 0) z
+  behind = let z : i + 1 ≡ length s - 1 = omega (arith, nasal_three) in ap (λ (n : ℕ). get_or s n 0) z
 
   module _ (before : NoNasalBefore s) where
-    pub end-capital : get_or s (length s - 1) 0 ≡ 0x4E → get_or s i 0 ≡ 0x4E → respell nasalRules s ≡ take i s ++ (0x1D3A ∷ [])
-    end-capital f g =
-        respell-end s i place before nasalRules nasal-rules ∙ ap (λ (t : List ℕ). take i s ++ t) (nasal-capital (get_or s i 0) (get_or s (i + 1) 0) g (behind ∙ f))
+    pub end_capital : get_or s (length s - 1) 0 ≡ 0x4E → get_or s i 0 ≡ 0x4E → respell nasal_rules s ≡ take i s ++ (0x1D3A ∷ [])
+    end_capital f g =
+        respell_end s i place before nasal_rules nasal_rules_law ∙ ap (λ (t : List ℕ). take i s ++ t) (nasal_capital (get_or s i 0) (get_or s (i + 1) 0) g (behind ∙ f))
 
-    pub end-small : (get_or s (length s - 1) 0 ≡ 0x4E → get_or s i 0 ≡ 0x4E → ⊥) → respell nasalRules s ≡ take i s ++ (0x207F ∷ [])
-    end-small n =
-        respell-end s i place before nasalRules nasal-rules
+    pub end_small : (get_or s (length s - 1) 0 ≡ 0x4E → get_or s i 0 ≡ 0x4E → ⊥) → respell nasal_rules s ≡ take i s ++ (0x207F ∷ [])
+    end_small n =
+        respell_end s i place before nasal_rules nasal_rules_law
         ∙ ap (λ (t : List ℕ). take i s ++ t)
-        (nasal-small (get_or s i 0) (get_or s (i + 1) 0) (is-n (get_or s i 0) second-n) (is-n (get_or s (i + 1) 0) (ap IsN behind ∙ last-n)) (λ f g. n (sym behind ∙ f) g))
+        (nasal_small (get_or s i 0) (get_or s (i + 1) 0) (is_n (get_or s i 0) second_n) (is_n (get_or s (i + 1) 0) (ap IsN behind ∙ last_n)) (λ f g. n (sym behind ∙ f) g))
 
 -- as the code leaves it
-pub front-signed : (s : List ℕ) (sign : ℕ) → 3 ≤ length s → Front (set s (length s - 2) sign) (length s - 1) (take (length s - 2) s ++ (sign ∷ []))
-front-signed s sign h =
+pub front_signed : (s : List ℕ) (sign : ℕ) → 3 ≤ length s → Front (set s (length s - 2) sign) (length s - 1) (take (length s - 2) s ++ (sign ∷ []))
+front_signed s sign h =
     let i : ℕ = length s - 2 in
     let z : length s - 1 ≡ suc i = omega arith in
     record {
@@ -542,123 +542,123 @@ front-signed s sign h =
     }
 
 -- ── a sign at the end only
-sign-last : (s : List ℕ) (c : ℕ) → 0x1D3A ≤ c → NoSignBefore s → listed s c ≡ true → last s ≡ c
+sign_last : (s : List ℕ) (c : ℕ) → 0x1D3A ≤ c → NoSignBefore s → listed s c ≡ true → last s ≡ c
 unfolding listed last
-sign-last [] c h n e = absurd (false-true e)
-sign-last (x ∷ []) c h n e = either (eqb x c) (λ y. eqb-true x c y) (λ m. absurd (false-true (sym (or-no _ _ m) ∙ e)))
-sign-last (x ∷ (y ∷ s)) c h n e =
+sign_last [] c h n e = absurd (false_true e)
+sign_last (x ∷ []) c h n e = either (eqb x c) (λ y. eqb-true x c y) (λ m. absurd (false_true (sym (or_no _ _ m) ∙ e)))
+sign_last (x ∷ (y ∷ s)) c h n e =
     let low : x < 0x1D3A = n 0 (omega arith) in
     let other : eqb x c ≡ false = ne_eqb x c (λ z. omega arith) in
-    last-skip x y s ∙ sign-last (y ∷ s) c h (λ k l. n (suc k) (omega arith)) (sym (or-no _ _ other) ∙ e)
+    last_skip x y s ∙ sign_last (y ∷ s) c h (λ k l. n (suc k) (omega arith)) (sym (or_no _ _ other) ∙ e)
 
-moved-lone : (s : List ℕ) (c : ℕ) → 0x1D3A ≤ c → NoSignBefore s → moved c s ≡ s
+moved_lone : (s : List ℕ) (c : ℕ) → 0x1D3A ≤ c → NoSignBefore s → moved c s ≡ s
 unfolding moved
-moved-lone s c h n =
+moved_lone s c h n =
     either (listed s c)
-    (λ l. text-yes (listed s c) _ _ l ∙ text-yes (eqb (last s) c) _ _ (eq-eqb _ _ (sign-last s c h n l)))
-    (λ l. text-no (listed s c) _ _ l)
+    (λ l. text_yes (listed s c) _ _ l ∙ text_yes (eqb (last s) c) _ _ (eq-eqb _ _ (sign_last s c h n l)))
+    (λ l. text_no (listed s c) _ _ l)
 
-pub moved-none-lone : (s : List ℕ) → NoSignBefore s → moved 0x1D3A (moved 0x207F s) ≡ s
-moved-none-lone s n = ap (moved 0x1D3A) (moved-lone s 0x207F (omega arith) n) ∙ moved-lone s 0x1D3A (omega arith) n
+pub moved_none_lone : (s : List ℕ) → NoSignBefore s → moved 0x1D3A (moved 0x207F s) ≡ s
+moved_none_lone s n = ap (moved 0x1D3A) (moved_lone s 0x207F (omega arith) n) ∙ moved_lone s 0x1D3A (omega arith) n
 
 -- ── the O rules there
-dotted-quiet : (s : List ℕ) → ((k : ℕ) → takesDot (drop k s) ≡ false) → dotted oRules s ≡ s
-unfolding takesDot dotted
-dotted-quiet [] n = refl
-dotted-quiet (x ∷ s) n = ap (λ (t : List ℕ). x ∷ t) (text-no _ _ _ (n 0) ∙ dotted-quiet s (λ k. n (suc k)))
+dotted_quiet : (s : List ℕ) → ((k : ℕ) → takes_dot (drop k s) ≡ false) → dotted o_rules s ≡ s
+unfolding takes_dot dotted
+dotted_quiet [] n = refl
+dotted_quiet (x ∷ s) n = ap (λ (t : List ℕ). x ∷ t) (text_no _ _ _ (n 0) ∙ dotted_quiet s (λ k. n (suc k)))
 
-dotted-once : (s : List ℕ) (k : ℕ) → k < length s → takesDot (drop k s) ≡ true → ((j : ℕ) → (j ≡ k → ⊥) → takesDot (drop j s) ≡ false)
-    → dotted oRules s ≡ take (k + 1) s ++ (0x0358 ∷ drop (k + 1) s)
-unfolding takesDot dotted
-dotted-once [] k h e n = absurd (omega arith)
-dotted-once (x ∷ s) zero h e n =
-    ap (λ (t : List ℕ). x ∷ t) (text-yes _ _ _ e ∙ ap (λ (t : List ℕ). 0x0358 ∷ t) (dotted-quiet s (λ j. n (suc j) (λ z. omega arith))))
-dotted-once (x ∷ s) (suc k) h e n =
+dotted_once : (s : List ℕ) (k : ℕ) → k < length s → takes_dot (drop k s) ≡ true → ((j : ℕ) → (j ≡ k → ⊥) → takes_dot (drop j s) ≡ false)
+    → dotted o_rules s ≡ take (k + 1) s ++ (0x0358 ∷ drop (k + 1) s)
+unfolding takes_dot dotted
+dotted_once [] k h e n = absurd (omega arith)
+dotted_once (x ∷ s) zero h e n =
+    ap (λ (t : List ℕ). x ∷ t) (text_yes _ _ _ e ∙ ap (λ (t : List ℕ). 0x0358 ∷ t) (dotted_quiet s (λ j. n (suc j) (λ z. omega arith))))
+dotted_once (x ∷ s) (suc k) h e n =
     let z : suc k + 1 ≡ suc (k + 1) = omega arith in
     ap (λ (t : List ℕ). x ∷ t)
-    (text-no _ _ _ (n 0 (λ w. omega arith)) ∙ dotted-once s k (omega arith) e (λ j l. n (suc j) (λ w. l (omega arith))))
+    (text_no _ _ _ (n 0 (λ w. omega arith)) ∙ dotted_once s k (omega arith) e (λ j l. n (suc j) (λ w. l (omega arith))))
     ∙ sym (ap (λ (m : ℕ). take m (x ∷ s) ++ (0x0358 ∷ drop m (x ∷ s))) z)
 
-low-dot : (x y z : ℕ) → y < 0x1D3A → z < 0x1D3A → takesDot (x ∷ y ∷ z ∷ []) ≡ false
-unfolding takesDot begins
-low-dot x y z h k =
+low_dot : (x y z : ℕ) → y < 0x1D3A → z < 0x1D3A → takes_dot (x ∷ y ∷ z ∷ []) ≡ false
+unfolding takes_dot begins
+low_dot x y z h k =
     let a : eqb y 0x1D3A ≡ false = ne_eqb y 0x1D3A (λ w. omega arith) in
     let b : eqb y 0x207F ≡ false = ne_eqb y 0x207F (λ w. omega arith) in
     let c : eqb z 0x1D3A ≡ false = ne_eqb z 0x1D3A (λ w. omega arith) in
     let d : eqb z 0x207F ≡ false = ne_eqb z 0x207F (λ w. omega arith) in
-    simp (a, b, c, d, and-false)
+    simp (a, b, c, d, and_false)
 
 -- what takes U+0358 is an o, and nothing takes it before an o
-dot-letter : (x y z : ℕ) → takesDot (x ∷ y ∷ z ∷ []) ≡ true → (x ≡ 0x4F) ⊎ (x ≡ 0x6F)
-unfolding takesDot begins
-dot-letter x y z e =
+dot_letter : (x y z : ℕ) → takes_dot (x ∷ y ∷ z ∷ []) ≡ true → (x ≡ 0x4F) ⊎ (x ≡ 0x6F)
+unfolding takes_dot begins
+dot_letter x y z e =
     either (eqb x 0x4F) (λ w. inl (eqb-true x 0x4F w))
-    (λ n. either (eqb x 0x6F) (λ w. inr (eqb-true x 0x6F w)) (λ m. absurd (false-true (sym (simp (n, m) refl) ∙ e))))
+    (λ n. either (eqb x 0x6F) (λ w. inr (eqb-true x 0x6F w)) (λ m. absurd (false_true (sym (simp (n, m) refl) ∙ e))))
 
-dot-before-o : (x y z : ℕ) → (y ≡ 0x4F) ⊎ (y ≡ 0x6F) → takesDot (x ∷ y ∷ z ∷ []) ≡ false
-unfolding takesDot begins
-dot-before-o x y z (inl e) = rw e (simp and-false)
-dot-before-o x y z (inr e) = rw e (simp and-false)
+dot_before_o : (x y z : ℕ) → (y ≡ 0x4F) ⊎ (y ≡ 0x6F) → takes_dot (x ∷ y ∷ z ∷ []) ≡ false
+unfolding takes_dot begins
+dot_before_o x y z (inl e) = rw e (simp and_false)
+dot_before_o x y z (inr e) = rw e (simp and_false)
 
 module _ (s : List ℕ) (n : NoSignBefore s) where
-  low-at : (k : ℕ) → (k + 1 ≡ length s → ⊥) → get_or s k 0 < 0x1D3A
-  low-at k l = by-end (dec_le (length s) k)
+  low_at_law : (k : ℕ) → (k + 1 ≡ length s → ⊥) → get_or s k 0 < 0x1D3A
+  low_at_law k l = by_end (dec_le (length s) k)
     where
-      by-end : Dec (length s ≤ k) → get_or s k 0 < 0x1D3A
-      by-end (yes h) = rw (get_or-eq_default s 0 h) (omega arith)
-      by-end (no h) = n k (omega arith)
+      by_end : Dec (length s ≤ k) → get_or s k 0 < 0x1D3A
+      by_end (yes h) = rw (get_or-eq_default s 0 h) (omega arith)
+      by_end (no h) = n k (omega arith)
 
-  no-dot : (k : ℕ) → (k + 2 ≡ length s → ⊥) → (k + 3 ≡ length s → ⊥) → takesDot (drop k s) ≡ false
-  no-dot k l m = dot-at s k ∙ low-dot (get_or s k 0) (get_or s (k + 1) 0) (get_or s (k + 2) 0) (low-at (k + 1) (λ w. l (omega arith))) (low-at (k + 2) (λ w. m (omega arith)))
+  no_dot : (k : ℕ) → (k + 2 ≡ length s → ⊥) → (k + 3 ≡ length s → ⊥) → takes_dot (drop k s) ≡ false
+  no_dot k l m = dot_at s k ∙ low_dot (get_or s k 0) (get_or s (k + 1) 0) (get_or s (k + 2) 0) (low_at_law (k + 1) (λ w. l (omega arith))) (low_at_law (k + 2) (λ w. m (omega arith)))
 
-  dots-none : ((k : ℕ) → takesDot (drop k s) ≡ false) → DotAt 0 s
-  dots-none h = record { nowhere = λ e. o-dotted s ∙ dotted-quiet s h; behind = λ e. absurd (omega arith) }
+  dots_none : ((k : ℕ) → takes_dot (drop k s) ≡ false) → DotAt 0 s
+  dots_none h = record { nowhere = λ e. o_dotted s ∙ dotted_quiet s h; behind = λ e. absurd (omega arith) }
 
-  dots-one : (k at : ℕ) → k + 1 ≡ at → k < length s → takesDot (drop k s) ≡ true → ((j : ℕ) → (j ≡ k → ⊥) → takesDot (drop j s) ≡ false) → DotAt at s
-  dots-one k at e h t q =
+  dots_one : (k at : ℕ) → k + 1 ≡ at → k < length s → takes_dot (drop k s) ≡ true → ((j : ℕ) → (j ≡ k → ⊥) → takes_dot (drop j s) ≡ false) → DotAt at s
+  dots_one k at e h t q =
       record {
         nowhere = λ z. absurd (omega arith);
-        behind = λ z. (omega arith, o-dotted s ∙ dotted-once s k h t q ∙ ap (λ (m : ℕ). take m s ++ (0x0358 ∷ drop m s)) e);
+        behind = λ z. (omega arith, o_dotted s ∙ dotted_once s k h t q ∙ ap (λ (m : ℕ). take m s ++ (0x0358 ∷ drop m s)) e);
       }
 
-  pub dot-short : length s < 2 → DotAt 0 s
-  dot-short h = dots-none (λ k. no-dot k (λ w. omega arith) (λ w. omega arith))
+  pub dot_short : length s < 2 → DotAt 0 s
+  dot_short h = dots_none (λ k. no_dot k (λ w. omega arith) (λ w. omega arith))
 
-  pub dot-low : get_or s (length s - 1) 0 < 0x1D3A → DotAt 0 s
-  dot-low h =
-      dots-none (λ k. dot-at s k ∙ low-dot (get_or s k 0) (get_or s (k + 1) 0) (get_or s (k + 2) 0) (all-low (k + 1)) (all-low (k + 2)))
+  pub dot_low : get_or s (length s - 1) 0 < 0x1D3A → DotAt 0 s
+  dot_low h =
+      dots_none (λ k. dot_at s k ∙ low_dot (get_or s k 0) (get_or s (k + 1) 0) (get_or s (k + 2) 0) (all_low (k + 1)) (all_low (k + 2)))
     where
-      all-low : (k : ℕ) → get_or s k 0 < 0x1D3A
-      all-low k = by-end (ℕ_discrete (k + 1) (length s))
+      all_low : (k : ℕ) → get_or s k 0 < 0x1D3A
+      all_low k = by_end (ℕ_discrete (k + 1) (length s))
         where
-          by-end : Dec (k + 1 ≡ length s) → get_or s k 0 < 0x1D3A
-          by-end (yes e) = let z : length s - 1 ≡ k = omega arith in subst (λ (m : ℕ). get_or s m 0 < 0x1D3A) z h
-          by-end (no e) = low-at k e
+          by_end : Dec (k + 1 ≡ length s) → get_or s k 0 < 0x1D3A
+          by_end (yes e) = let z : length s - 1 ≡ k = omega arith in subst (λ (m : ℕ). get_or s m 0 < 0x1D3A) z h
+          by_end (no e) = low_at_law k e
 
   module _ (two : 2 ≤ length s) where
-    pub dot-last : takesDot (drop (length s - 2) s) ≡ true → DotAt (length s - 1) s
-    dot-last e = dots-one (length s - 2) (length s - 1) (omega arith) (omega arith) e (λ j l. by-place j l (ℕ_discrete (j + 3) (length s)))
+    pub dot_last : takes_dot (drop (length s - 2) s) ≡ true → DotAt (length s - 1) s
+    dot_last e = dots_one (length s - 2) (length s - 1) (omega arith) (omega arith) e (λ j l. by_place j l (ℕ_discrete (j + 3) (length s)))
       where
         letter : (get_or s (length s - 2) 0 ≡ 0x4F) ⊎ (get_or s (length s - 2) 0 ≡ 0x6F)
-        letter = dot-letter (get_or s (length s - 2) 0) (get_or s (length s - 2 + 1) 0) (get_or s (length s - 2 + 2) 0) (sym (dot-at s (length s - 2)) ∙ e)
+        letter = dot_letter (get_or s (length s - 2) 0) (get_or s (length s - 2 + 1) 0) (get_or s (length s - 2 + 2) 0) (sym (dot_at s (length s - 2)) ∙ e)
 
-        by-place : (j : ℕ) → (j ≡ length s - 2 → ⊥) → Dec (j + 3 ≡ length s) → takesDot (drop j s) ≡ false
-        by-place j l (yes m) =
+        by_place : (j : ℕ) → (j ≡ length s - 2 → ⊥) → Dec (j + 3 ≡ length s) → takes_dot (drop j s) ≡ false
+        by_place j l (yes m) =
             let z : j + 1 ≡ length s - 2 = omega arith in
-            dot-at s j ∙ dot-before-o (get_or s j 0) (get_or s (j + 1) 0) (get_or s (j + 2) 0) (subst (λ (k : ℕ). (get_or s k 0 ≡ 0x4F) ⊎ (get_or s k 0 ≡ 0x6F)) (sym z) letter)
-        by-place j l (no m) = no-dot j (λ w. l (omega arith)) m
+            dot_at s j ∙ dot_before_o (get_or s j 0) (get_or s (j + 1) 0) (get_or s (j + 2) 0) (subst (λ (k : ℕ). (get_or s k 0 ≡ 0x4F) ⊎ (get_or s k 0 ≡ 0x6F)) (sym z) letter)
+        by_place j l (no m) = no_dot j (λ w. l (omega arith)) m
 
-    pub dot-second : 2 < length s → takesDot (drop (length s - 2) s) ≡ false → takesDot (drop (length s - 3) s) ≡ true → DotAt (length s - 2) s
-    dot-second three f e = dots-one (length s - 3) (length s - 2) (omega arith) (omega arith) e (λ j l. by-place j l (ℕ_discrete (j + 2) (length s)))
+    pub dot_second : 2 < length s → takes_dot (drop (length s - 2) s) ≡ false → takes_dot (drop (length s - 3) s) ≡ true → DotAt (length s - 2) s
+    dot_second three f e = dots_one (length s - 3) (length s - 2) (omega arith) (omega arith) e (λ j l. by_place j l (ℕ_discrete (j + 2) (length s)))
       where
-        by-place : (j : ℕ) → (j ≡ length s - 3 → ⊥) → Dec (j + 2 ≡ length s) → takesDot (drop j s) ≡ false
-        by-place j l (yes m) = let z : j ≡ length s - 2 = omega arith in ap (λ (k : ℕ). takesDot (drop k s)) z ∙ f
-        by-place j l (no m) = no-dot j m (λ w. l (omega arith))
+        by_place : (j : ℕ) → (j ≡ length s - 3 → ⊥) → Dec (j + 2 ≡ length s) → takes_dot (drop j s) ≡ false
+        by_place j l (yes m) = let z : j ≡ length s - 2 = omega arith in ap (λ (k : ℕ). takes_dot (drop k s)) z ∙ f
+        by_place j l (no m) = no_dot j m (λ w. l (omega arith))
 
-    pub dot-nowhere : takesDot (drop (length s - 2) s) ≡ false → (2 < length s → takesDot (drop (length s - 3) s) ≡ false) → DotAt 0 s
-    dot-nowhere f g = dots-none (λ j. by-place j (ℕ_discrete (j + 2) (length s)) (ℕ_discrete (j + 3) (length s)))
+    pub dot_nowhere : takes_dot (drop (length s - 2) s) ≡ false → (2 < length s → takes_dot (drop (length s - 3) s) ≡ false) → DotAt 0 s
+    dot_nowhere f g = dots_none (λ j. by_place j (ℕ_discrete (j + 2) (length s)) (ℕ_discrete (j + 3) (length s)))
       where
-        by-place : (j : ℕ) → Dec (j + 2 ≡ length s) → Dec (j + 3 ≡ length s) → takesDot (drop j s) ≡ false
-        by-place j (yes m) q = let z : j ≡ length s - 2 = omega arith in ap (λ (k : ℕ). takesDot (drop k s)) z ∙ f
-        by-place j (no m) (yes q) = let z : j ≡ length s - 3 = omega arith in ap (λ (k : ℕ). takesDot (drop k s)) z ∙ g (omega arith)
-        by-place j (no m) (no q) = no-dot j m q
+        by_place : (j : ℕ) → Dec (j + 2 ≡ length s) → Dec (j + 3 ≡ length s) → takes_dot (drop j s) ≡ false
+        by_place j (yes m) q = let z : j ≡ length s - 2 = omega arith in ap (λ (k : ℕ). takes_dot (drop k s)) z ∙ f
+        by_place j (no m) (yes q) = let z : j ≡ length s - 3 = omega arith in ap (λ (k : ℕ). takes_dot (drop k s)) z ∙ g (omega arith)
+        by_place j (no m) (no q) = no_dot j m q

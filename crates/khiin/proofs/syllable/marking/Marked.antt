@@ -9,45 +9,45 @@ use native.Mathlib.Numerals.{add-one}
 use lib.ListN.{length, take, drop, get_or, drop_of_length-le}
 use lib.Seq.{split_at, take-suc, append_snoc}
 use Rattle.ji.specs.Unicode.{unicode16, composite}
-use Rattle.ji.proofs.Bools.{and-yes}
-use Rattle.ji.proofs.text.Laws.{drop-next}
+use Rattle.ji.proofs.Bools.{and_yes}
+use Rattle.ji.proofs.text.Laws.{drop_next}
 use Rattle.khiin.specs.Syllable.{encoded}
-use Rattle.khiin.specs.Compose.{staysBehind, settledFrom}
-use Rattle.khiin.proofs.syllable.marking.Settled.{IsMark, Fits, encoded-one, encoded-none}
+use Rattle.khiin.specs.Compose.{stays_behind, settled_from}
+use Rattle.khiin.proofs.syllable.marking.Settled.{IsMark, Fits, encoded_one, encoded_none}
 
 -- ── the walk that tells whether a text is settled
-pub settled-step : (before : ℕ) (s : List ℕ) (i : ℕ) → i < length s → staysBehind before (get_or s i 0) ≡ true → settledFrom before (drop i s) ≡ settledFrom (get_or s i 0) (drop (i + 1) s)
-unfolding settledFrom
-settled-step before s i h e = ap (settledFrom before) (drop-next s i h) ∙ and-yes _ _ e
+pub settled_step : (before : ℕ) (s : List ℕ) (i : ℕ) → i < length s → stays_behind before (get_or s i 0) ≡ true → settled_from before (drop i s) ≡ settled_from (get_or s i 0) (drop (i + 1) s)
+unfolding settled_from
+settled_step before s i h e = ap (settled_from before) (drop_next s i h) ∙ and_yes _ _ e
 
-pub settled-end : (before : ℕ) (s : List ℕ) (i : ℕ) → length s ≤ i → settledFrom before (drop i s) ≡ true
-unfolding settledFrom
-settled-end before s i h = ap (settledFrom before) (drop_of_length-le s h)
+pub settled_end : (before : ℕ) (s : List ℕ) (i : ℕ) → length s ≤ i → settled_from before (drop i s) ≡ true
+unfolding settled_from
+settled_end before s i h = ap (settled_from before) (drop_of_length-le s h)
 
 -- ── a settled text with a tone mark behind the letter at k
-module _ (s : List ℕ) (k m : ℕ) (h : settledFrom 0 s ≡ true) (l : k < length s) (low : get_or s k 0 < 0xC0) (mark : IsMark m) where
+module _ (s : List ℕ) (k m : ℕ) (h : settled_from 0 s ≡ true) (l : k < length s) (low : get_or s k 0 < 0xC0) (mark : IsMark m) where
   abbrev x : ℕ
   x = get_or s k 0
 
   parts : s ≡ take k s ++ (x ∷ drop (k + 1) s)
   parts = rw (add-one k) (split_at s k 0 l)
 
-  settled-parts : settledFrom 0 (take k s ++ (x ∷ drop (k + 1) s)) ≡ true
-  settled-parts = subst (λ (t : List ℕ). settledFrom 0 t ≡ true) parts h
+  settled_parts : settled_from 0 (take k s ++ (x ∷ drop (k + 1) s)) ≡ true
+  settled_parts = subst (λ (t : List ℕ). settled_from 0 t ≡ true) parts h
 
-  letter-first : take (k + 1) s ++ (m ∷ drop (k + 1) s) ≡ take k s ++ (x ∷ m ∷ drop (k + 1) s)
-  letter-first =
+  letter_first : take (k + 1) s ++ (m ∷ drop (k + 1) s) ≡ take k s ++ (x ∷ m ∷ drop (k + 1) s)
+  letter_first =
       let e : take (k + 1) s ≡ take k s ++ (x ∷ []) = rw (add-one k) (take-suc s k 0 l) in
       ap (λ (t : List ℕ). t ++ (m ∷ drop (k + 1) s)) e ∙ append_snoc (take k s) x (m ∷ drop (k + 1) s)
 
-  pub marked-one : (c : ℕ) → composite unicode16 x m ≡ some c → c < 0x0300 → encoded unicode16 (take (k + 1) s ++ (m ∷ drop (k + 1) s)) ≡ take k s ++ (c ∷ drop (k + 1) s)
-  marked-one c e small = ap (encoded unicode16) letter-first ∙ encoded-one (take k s) x (drop (k + 1) s) settled-parts low m mark c e small
+  pub marked_one : (c : ℕ) → composite unicode16 x m ≡ some c → c < 0x0300 → encoded unicode16 (take (k + 1) s ++ (m ∷ drop (k + 1) s)) ≡ take k s ++ (c ∷ drop (k + 1) s)
+  marked_one c e small = ap (encoded unicode16) letter_first ∙ encoded_one (take k s) x (drop (k + 1) s) settled_parts low m mark c e small
 
-  pub marked-none : (m ≡ 0x030D) ⊎ (get_or s (k + 1) 0 ≡ 0x0324 → ⊥) → composite unicode16 x m ≡ none → encoded unicode16 (take (k + 1) s ++ (m ∷ drop (k + 1) s)) ≡ take (k + 1) s ++ (m ∷ drop (k + 1) s)
-  marked-none f e =
-      ap (encoded unicode16) letter-first ∙ encoded-none (take k s) x (drop (k + 1) s) settled-parts low m mark (fits f) e ∙ sym letter-first
+  pub marked_none : (m ≡ 0x030D) ⊎ (get_or s (k + 1) 0 ≡ 0x0324 → ⊥) → composite unicode16 x m ≡ none → encoded unicode16 (take (k + 1) s ++ (m ∷ drop (k + 1) s)) ≡ take (k + 1) s ++ (m ∷ drop (k + 1) s)
+  marked_none f e =
+      ap (encoded unicode16) letter_first ∙ encoded_none (take k s) x (drop (k + 1) s) settled_parts low m mark (fits f) e ∙ sym letter_first
     where
-      fits : (m ≡ 0x030D) ⊎ (get_or s (k + 1) 0 ≡ 0x0324 → ⊥) → Fits (take k s) x (drop (k + 1) s) settled-parts low m mark
+      fits : (m ≡ 0x030D) ⊎ (get_or s (k + 1) 0 ≡ 0x0324 → ⊥) → Fits (take k s) x (drop (k + 1) s) settled_parts low m mark
       fits (inl z) = inl z
       fits (inr n) = inr (λ z. n (sym (start s (k + 1)) ∙ z))
         where

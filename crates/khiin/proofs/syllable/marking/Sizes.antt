@@ -8,46 +8,46 @@ use native.Mathlib.Omega.{arith}
 use borrow.Author.Tests.{leb-true}
 use lib.Dec.{leb}
 use lib.ListN.{length}
-use Rattle.ji.specs.Reply.{Reply, refused, refusalNumber, answered, pickReply, placed, textReply}
+use Rattle.ji.specs.Reply.{Reply, refused, refusal_number, answered, pick_reply, placed, text_reply}
 use Rattle.ji.specs.declared.reply.Refusal.{Refusal}
 use Rattle.ji.specs.declared.reply.Refusal.TheVariants.{NoRoom}
 use Rattle.ji.specs.declared.reply.TextAnswer.{TextAnswer}
 use Rattle.ji.specs.declared.reply.TextAnswer.TheVariants.{Done, Refused}
 use Rattle.ji.specs.declared.unicode.ByteLen.{ByteLen}
 use Rattle.ji.proofs.Bools.{either}
-use Rattle.ji.proofs.Replies.{refusal-some}
-use Rattle.khiin.specs.Compose.{answerOf}
+use Rattle.ji.proofs.Replies.{refusal_some}
+use Rattle.khiin.specs.Compose.{answer_of}
 
-module _ (text before after : List ℕ) (a : TextAnswer) (e : textReply a after ≡ placed 0 text before) where
+module _ (text before after : List ℕ) (a : TextAnswer) (e : text_reply a after ≡ placed 0 text before) where
   -- the reply, where there is room and where there is none
-  room : (b : Bool) → leb (length text) (length before) ≡ b → textReply a after ≡ pickReply b (answered 0 text before) (refused NoRoom before)
-  room b y = e ∙ ap (λ (c : Bool). pickReply c (answered 0 text before) (refused NoRoom before)) y
+  room : (b : Bool) → leb (length text) (length before) ≡ b → text_reply a after ≡ pick_reply b (answered 0 text before) (refused NoRoom before)
+  room b y = e ∙ ap (λ (c : Bool). pick_reply c (answered 0 text before) (refused NoRoom before)) y
 
   -- a writer refuses its text for want of room only, and changes nothing then
   module _ (why : Refusal) (k : a ≡ Refused why) where
-    told : refused why after ≡ textReply a after
-    told = ap (λ (x : TextAnswer). textReply x after) (sym k)
+    told : refused why after ≡ text_reply a after
+    told = ap (λ (x : TextAnswer). text_reply x after) (sym k)
 
     short : leb (length text) (length before) ≡ false
     short =
         either (leb (length text) (length before))
-        (λ y. let z : refusalNumber why ≡ 0 = ap (λ (r : Reply). r.code) (told ∙ room _ y) in absurd (omega (arith, z, refusal-some why)))
+        (λ y. let z : refusal_number why ≡ 0 = ap (λ (r : Reply). r.code) (told ∙ room _ y) in absurd (omega (arith, z, refusal_some why)))
         (λ n. n)
 
-    pub no-change : after ≡ before
-    no-change = ap (λ (r : Reply). r.buffer) (told ∙ room _ short)
+    pub no_change : after ≡ before
+    no_change = ap (λ (r : Reply). r.buffer) (told ∙ room _ short)
 
-    pub no-room : textReply (answerOf 0) after ≡ placed 0 text before
-    no-room = ap (refused NoRoom) no-change ∙ sym (ap (λ (c : Bool). pickReply c (answered 0 text before) (refused NoRoom before)) short)
+    pub no_room : text_reply (answer_of 0) after ≡ placed 0 text before
+    no_room = ap (refused NoRoom) no_change ∙ sym (ap (λ (c : Bool). pick_reply c (answered 0 text before) (refused NoRoom before)) short)
 
   module _ (len : ByteLen) (k : a ≡ Done len) where
-    pub written : textReply (answerOf (len.0 + 1)) after ≡ placed 0 text before
-    written = ap (λ (x : TextAnswer). textReply x after) (ap answerOf (add-one len.0) ∙ sym k) ∙ e
+    pub written : text_reply (answer_of (len.0 + 1)) after ≡ placed 0 text before
+    written = ap (λ (x : TextAnswer). text_reply x after) (ap answer_of (add-one len.0) ∙ sym k) ∙ e
 
     -- a text that was written is no longer than the buffer
-    pub no-longer : len.0 ≤ length before
-    no-longer =
-        let told : textReply (Done len) after ≡ textReply a after = ap (λ (x : TextAnswer). textReply x after) (sym k) in
+    pub no_longer : len.0 ≤ length before
+    no_longer =
+        let told : text_reply (Done len) after ≡ text_reply a after = ap (λ (x : TextAnswer). text_reply x after) (sym k) in
         either (leb (length text) (length before))
         (λ y. let z : len.0 ≡ length text = ap (λ (r : Reply). r.length) (told ∙ room _ y) in omega (arith, z, leb-true (length text) (length before) y))
-        (λ n. let z : 0 ≡ refusalNumber NoRoom = ap (λ (r : Reply). r.code) (told ∙ room _ n) in absurd (omega (arith, z, refusal-some NoRoom)))
+        (λ n. let z : 0 ≡ refusal_number NoRoom = ap (λ (r : Reply). r.code) (told ∙ room _ n) in absurd (omega (arith, z, refusal_some NoRoom)))

@@ -7,89 +7,89 @@ use borrow.Author.Tests.{le-leb, lt-leb}
 use lib.Dec.{leb}
 use lib.ListN.{length, drop, length-drop}
 use lib.Seq.{drop-drop}
-use Rattle.ji.specs.Unicode.{pickNumber}
-use Rattle.ji.proofs.Bools.{and-yes, and-no, and-false}
+use Rattle.ji.specs.Unicode.{pick_number}
+use Rattle.ji.proofs.Bools.{and_yes, and_no, and_false}
 use Rattle.khiin_entries.specs.KeySequence.{split}
-use Rattle.khiin_entries.specs.Choices.{firstPart, allShort, partCount}
-use Rattle.khiin_entries.proofs.key_sequence.Splitting.{split-first, passing-start, passing-more, passing-inside, passing-next}
+use Rattle.khiin_entries.specs.Choices.{first_part, all_short, part_count}
+use Rattle.khiin_entries.proofs.key_sequence.Splitting.{split_first, passing_start, passing_more, passing_inside, passing_next}
 use native.Mathlib.Omega.{arith}
 use Rattle.khiin_entries.proofs.key_sequence.count_parts.Invariants.{Counted}
 use Rattle.khiin_entries.proofs.key_sequence.count_parts.Goals as goal
 
 module _ (s : List ℕ) where
-  count-as : (b : Bool) (n : ℕ) → (leb (length (split s)) 16 && allShort (split s)) ≡ b → pickNumber b (length (split s)) 0 ≡ n → n ≡ partCount s
-  unfolding partCount
-  count-as b n e f = sym (ap (λ (x : Bool). pickNumber x (length (split s)) 0) e ∙ f)
+  count_as : (b : Bool) (n : ℕ) → (leb (length (split s)) 16 && all_short (split s)) ≡ b → pick_number b (length (split s)) 0 ≡ n → n ≡ part_count s
+  unfolding part_count
+  count_as b n e f = sym (ap (λ (x : Bool). pick_number x (length (split s)) 0) e ∙ f)
 
-  counted-start : Counted s 0 0
-  counted-start = record { few = omega arith; some = omega arith; passing = passing-start s; short = refl }
+  counted_start : Counted s 0 0
+  counted_start = record { few = omega arith; some = omega arith; passing = passing_start s; short = refl }
 
   module _ (n at : ℕ) (c : Counted s n at) where
-    counted-end : length s < at → n ≡ partCount s
-    counted-end h =
+    counted_end : length s < at → n ≡ part_count s
+    counted_end h =
         let none = c.passing.over h in
         let all : length (split s) ≡ n = omega (arith, c.some, ap length none, length-drop n (split s)) in
         let few : n ≤ 16 = c.few in
         let most : length (split s) ≤ 16 = omega arith in
-        count-as true n (and-yes _ _ (le-leb _ _ most) ∙ c.short ∙ ap allShort none) all
+        count_as true n (and_yes _ _ (le-leb _ _ most) ∙ c.short ∙ ap all_short none) all
 
     module _ (h : at ≤ length s) where
       abbrev part : List ℕ
-      part = firstPart (drop at s)
+      part = first_part (drop at s)
 
-      counted-many : n ≡ 16 → 0 ≡ partCount s
-      counted-many e =
-          let many : 16 < length (split s) = omega (arith, passing-more c.passing h) in
-          count-as false 0 (and-no _ _ (lt-leb _ _ many)) refl
+      counted_many : n ≡ 16 → 0 ≡ part_count s
+      counted_many e =
+          let many : 16 < length (split s) = omega (arith, passing_more c.passing h) in
+          count_as false 0 (and_no _ _ (lt-leb _ _ many)) refl
 
-      next-short : allShort (split s) ≡ (leb (length part) 256 && allShort (drop 1 (split (drop at s))))
-      next-short = c.short ∙ ap allShort (c.passing.here h ∙ split-first (drop at s))
+      next_short : all_short (split s) ≡ (leb (length part) 256 && all_short (drop 1 (split (drop at s))))
+      next_short = c.short ∙ ap all_short (c.passing.here h ∙ split_first (drop at s))
 
-      counted-long : 256 < length part → 0 ≡ partCount s
-      counted-long l =
-          count-as false 0 (ap (λ (x : Bool). leb (length (split s)) 16 && x) (next-short ∙ and-no _ _ (lt-leb _ _ l)) ∙ and-false (leb (length (split s)) 16)) refl
+      counted_long : 256 < length part → 0 ≡ part_count s
+      counted_long l =
+          count_as false 0 (ap (λ (x : Bool). leb (length (split s)) 16 && x) (next_short ∙ and_no _ _ (lt-leb _ _ l)) ∙ and_false (leb (length (split s)) 16)) refl
 
-      counted-next : (end : ℕ) → end ≡ at + length part → length part ≤ 256 → (n ≡ 16 → ⊥) → Counted s (n + 1) (end + 1)
-      counted-next end e l ne =
+      counted_next : (end : ℕ) → end ≡ at + length part → length part ≤ 256 → (n ≡ 16 → ⊥) → Counted s (n + 1) (end + 1)
+      counted_next end e l ne =
           let few : n ≤ 16 = c.few in
           record {
             few = omega arith;
-            some = omega (arith, passing-more c.passing h);
-            passing = passing-next c.passing h end e;
-            short = next-short ∙ and-yes _ _ (le-leb _ _ l) ∙ ap (λ (ps : List (List ℕ)). allShort (drop 1 ps)) (sym (c.passing.here h)) ∙ ap allShort (drop-drop 1 n (split s));
+            some = omega (arith, passing_more c.passing h);
+            passing = passing_next c.passing h end e;
+            short = next_short ∙ and_yes _ _ (le-leb _ _ l) ∙ ap (λ (ps : List (List ℕ)). all_short (drop 1 ps)) (sym (c.passing.here h)) ∙ ap all_short (drop-drop 1 n (split s));
           }
 
 pub loop-at-init : goal.loop-at-init
-loop-at-init c = (omega arith, counted-start _)
+loop-at-init c = (omega arith, counted_start _)
 
 pub overflow_sub-end : goal.overflow_sub-end
 overflow_sub-end c = omega (arith, c.part_end-end.ensures)
 
 pub returns-then-end-at-gt256 : goal.returns-then-end-at-gt256
 returns-then-end-at-gt256 c =
-    counted-long c.args.entry.now _ _ c.loop-at.invariant.1 (omega arith) (omega (arith, c.part_end-end.ensures))
+    counted_long c.args.entry.now _ _ c.loop-at.invariant.1 (omega arith) (omega (arith, c.part_end-end.ensures))
 
 pub returns-then-n-eq16 : goal.returns-then-n-eq16
 returns-then-n-eq16 c =
-    counted-many c.args.entry.now _ _ c.loop-at.invariant.1 (omega arith) c.if-n-eq16.true
+    counted_many c.args.entry.now _ _ c.loop-at.invariant.1 (omega arith) c.if-n-eq16.true
 
 pub overflow_add-n : goal.overflow_add-n
 overflow_add-n c = omega (arith, c.loop-at.invariant.1.few)
 
 pub overflow_add-at : goal.overflow_add-at
 overflow_add-at c =
-    omega (arith, passing-inside c.loop-at.invariant.1.passing (omega arith) _ c.part_end-end.ensures)
+    omega (arith, passing_inside c.loop-at.invariant.1.passing (omega arith) _ c.part_end-end.ensures)
 
 pub loop-at-smaller : goal.loop-at-smaller
 loop-at-smaller c =
-    omega (arith, passing-inside c.loop-at.invariant.1.passing (omega arith) _ c.part_end-end.ensures, c.part_end-end.ensures)
+    omega (arith, passing_inside c.loop-at.invariant.1.passing (omega arith) _ c.part_end-end.ensures, c.part_end-end.ensures)
 
 pub loop-at-preserved : goal.loop-at-preserved
 loop-at-preserved c =
     let e = c.part_end-end.ensures in (
-      omega (arith, passing-inside c.loop-at.invariant.1.passing (omega arith) _ e),
-      counted-next c.args.entry.now _ _ c.loop-at.invariant.1 (omega arith) _ e (omega (arith, e)) c.if-n-eq16.false,
+      omega (arith, passing_inside c.loop-at.invariant.1.passing (omega arith) _ e),
+      counted_next c.args.entry.now _ _ c.loop-at.invariant.1 (omega arith) _ e (omega (arith, e)) c.if-n-eq16.false,
     )
 
 pub returns : goal.returns
-returns c = counted-end c.args.entry.now _ _ c.loop-at.invariant.1 (omega arith)
+returns c = counted_end c.args.entry.now _ _ c.loop-at.invariant.1 (omega arith)

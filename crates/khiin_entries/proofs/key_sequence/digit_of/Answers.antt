@@ -10,19 +10,19 @@ module _ (position radix : ℕ) where
   divided : (n : ℕ) → radix ≡ n → (position % n ≡ position % radix) × (position / n ≡ position / radix)
   divided n e = (ap (λ (k : ℕ). position % k) (sym e), ap (λ (k : ℕ). position / k) (sym e))
 
-  by-one : radix ≡ 1 → (0 ≡ position % radix) × (position ≡ position / radix)
-  by-one e = (sym (mod-one position) ∙ (divided 1 e).0, sym (div-one position) ∙ (divided 1 e).1)
+  by_one : radix ≡ 1 → (0 ≡ position % radix) × (position ≡ position / radix)
+  by_one e = (sym (mod-one position) ∙ (divided 1 e).0, sym (div-one position) ∙ (divided 1 e).1)
 
-  only-four : Radix radix → (radix ≡ 1 → ⊥) → (radix ≡ 2 → ⊥) → radix ≡ 4
-  only-four (inl e) f g = absurd (f e)
-  only-four (inr (inl e)) f g = absurd (g e)
-  only-four (inr (inr e)) f g = e
+  only_four : Radix radix → (radix ≡ 1 → ⊥) → (radix ≡ 2 → ⊥) → radix ≡ 4
+  only_four (inl e) f g = absurd (f e)
+  only_four (inr (inl e)) f g = absurd (g e)
+  only_four (inr (inr e)) f g = e
 
 pub returns-then-radix-eq1 : goal.returns-then-radix-eq1
-returns-then-radix-eq1 c = by-one _ _ c.if-radix-eq1.true
+returns-then-radix-eq1 c = by_one _ _ c.if-radix-eq1.true
 
 pub returns-then-radix-eq2 : goal.returns-then-radix-eq2
 returns-then-radix-eq2 c = divided _ _ 2 c.if-radix-eq2.true
 
 pub returns : goal.returns
-returns c = divided _ _ 4 (only-four c.args.position c.args.radix c.requires c.if-radix-eq1.false c.if-radix-eq2.false)
+returns c = divided _ _ 4 (only_four c.args.position c.args.radix c.requires c.if-radix-eq1.false c.if-radix-eq2.false)

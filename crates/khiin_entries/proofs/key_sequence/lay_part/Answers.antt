@@ -9,12 +9,12 @@ use Rattle.ji.specs.declared.lomaji.keys.Form.{Form}
 use Rattle.ji.specs.declared.lomaji.keys.Form.TheVariants.{Plain, Oo}
 use Rattle.ji.specs.declared.lomaji.keys.Kind.{Kind}
 use Rattle.ji.specs.declared.lomaji.keys.Kind.TheVariants.{Detoned}
-use Rattle.ji.proofs.lomaji.keys.Bytes.{addedKey}
-use Rattle.ji.specs.Lomaji.Dot.{dotIn}
-use Rattle.khiin_entries.specs.Choices.{pointsOf, formBytes, isToned, rowOne, rowTwo, rowOneToned, rowTwoToned, RowOf}
+use Rattle.ji.proofs.lomaji.keys.Bytes.{added_key}
+use Rattle.ji.specs.Lomaji.Dot.{dot_in}
+use Rattle.khiin_entries.specs.Choices.{points_of, form_bytes, is_toned, row_one, row_two, row_one_toned, row_two_toned, RowOf}
 use Rattle.khiin_entries.specs.declared.key_sequence.Row.{Row}
-use Rattle.khiin_entries.proofs.key_sequence.Forms.{form-toned, several-detoned, several-toned}
-use Rattle.khiin_entries.proofs.key_sequence.Rows.{one-row, one-toned-row, two-row, two-toned-row, first-room, OnePut, one-stands, one-front, one-short, TwoPut, two-first, two-second, two-front, two-short}
+use Rattle.khiin_entries.proofs.key_sequence.Forms.{form_toned, several_detoned, several_toned}
+use Rattle.khiin_entries.proofs.key_sequence.Rows.{one_row, one_toned_row, two_row, two_toned_row, first_room, OnePut, one_stands, one_front, one_short, TwoPut, two_first, two_second, two_front, two_short}
 use native.Mathlib.Omega.{arith}
 use Rattle.khiin_entries.proofs.key_sequence.lay_part.Goals as goal
 use Rattle.khiin_entries.proofs.key_sequence.lay_part.Goals.{After-put_form-end, After-put_form-mid}
@@ -39,25 +39,25 @@ module _ (f : After-put_form-mid) where
   middle = f.put_form-mid.new.forms
 
   abbrev form : Form → Kind → List ℕ
-  form x k = formBytes unicode16 x k part
+  form x k = form_bytes unicode16 x k part
 
   -- a toned form has a last byte
-  longer : (x : Form) → isToned kind ≡ true → 0 < length (form x kind)
-  longer x e = omega (arith, ap length (form-toned part f.requires.0 x kind e), length-append (form x Detoned) (addedKey unicode16 kind (pointsOf part) ∷ []))
+  longer : (x : Form) → is_toned kind ≡ true → 0 < length (form x kind)
+  longer x e = omega (arith, ap length (form_toned part f.requires.0 x kind e), length-append (form x Detoned) (added_key unicode16 kind (points_of part) ∷ []))
 
   -- the plain form is put
   plain : OnePut kind part before at mid middle
   plain = record { room = f.requires; ends = f.put_form-mid.ensures.0; put = f.put_form-mid.ensures.1 }
 
-  one : (row : Row) → row ≡ rowOne at mid → dotIn part ≡ false → isToned kind ≡ false → RowOf unicode16 false kind part at before middle row
+  one : (row : Row) → row ≡ row_one at mid → dot_in part ≡ false → is_toned kind ≡ false → RowOf unicode16 false kind part at before middle row
   one row e dot toned =
       subst (λ (r : Row). RowOf unicode16 false kind part at before middle r) (sym e)
-      (one-row false kind part before middle at (one-front _ _ _ _ plain) (form Plain kind) (one-stands _ _ _ _ plain) mid plain.ends (several-detoned part f.requires.0 kind toned false dot) (one-short _ _ _ _ plain).0)
+      (one_row false kind part before middle at (one_front _ _ _ _ plain) (form Plain kind) (one_stands _ _ _ _ plain) mid plain.ends (several_detoned part f.requires.0 kind toned false dot) (one_short _ _ _ _ plain).0)
 
-  one-toned : (row : Row) → row ≡ rowOneToned at mid → dotIn part ≡ false → isToned kind ≡ true → RowOf unicode16 false kind part at before middle row
-  one-toned row e dot toned =
+  one_toned : (row : Row) → row ≡ row_one_toned at mid → dot_in part ≡ false → is_toned kind ≡ true → RowOf unicode16 false kind part at before middle row
+  one_toned row e dot toned =
       subst (λ (r : Row). RowOf unicode16 false kind part at before middle r) (sym e)
-      (one-toned-row false kind part before middle at (one-front _ _ _ _ plain) (form Plain kind) (one-stands _ _ _ _ plain) mid plain.ends (form Plain Detoned) (addedKey unicode16 kind (pointsOf part)) (form-toned part f.requires.0 Plain kind toned) (several-toned part f.requires.0 kind toned false dot) (one-short _ _ _ _ plain).0)
+      (one_toned_row false kind part before middle at (one_front _ _ _ _ plain) (form Plain kind) (one_stands _ _ _ _ plain) mid plain.ends (form Plain Detoned) (added_key unicode16 kind (points_of part)) (form_toned part f.requires.0 Plain kind toned) (several_toned part f.requires.0 kind toned false dot) (one_short _ _ _ _ plain).0)
 
 -- the other form is put behind it
 both : (b : After-put_form-end) → TwoPut b.args.kind b.args.part.now b.args.forms.now b.args.at b.put_form-mid.result b.put_form-end.result b.put_form-end.new.forms
@@ -70,36 +70,36 @@ both b =
     }
 
 module _ (f : After-put_form-mid) {end : ℕ} {after : List ℕ} (both : TwoPut (kind f) (part f) (before f) (at f) (mid f) end after) where
-  two : (row : Row) → row ≡ rowTwo (at f) (mid f) end → dotIn (part f) ≡ true → isToned (kind f) ≡ false → RowOf unicode16 false (kind f) (part f) (at f) (before f) after row
+  two : (row : Row) → row ≡ row_two (at f) (mid f) end → dot_in (part f) ≡ true → is_toned (kind f) ≡ false → RowOf unicode16 false (kind f) (part f) (at f) (before f) after row
   two row e dot toned =
       subst (λ (r : Row). RowOf unicode16 false (kind f) (part f) (at f) (before f) after r) (sym e)
-      (two-row false (kind f) (part f) (before f) after (at f) (two-front _ _ _ _ both) (form f Plain (kind f)) (two-first _ _ _ _ both) (mid f) (plain f).ends (form f Oo (kind f)) (two-second _ _ _ _ both) end both.ends (several-detoned (part f) f.requires.0 (kind f) toned true dot) (two-short _ _ _ _ both).1)
+      (two_row false (kind f) (part f) (before f) after (at f) (two_front _ _ _ _ both) (form f Plain (kind f)) (two_first _ _ _ _ both) (mid f) (plain f).ends (form f Oo (kind f)) (two_second _ _ _ _ both) end both.ends (several_detoned (part f) f.requires.0 (kind f) toned true dot) (two_short _ _ _ _ both).1)
 
-  two-toned : (row : Row) → row ≡ rowTwoToned (at f) (mid f) end → dotIn (part f) ≡ true → isToned (kind f) ≡ true → RowOf unicode16 false (kind f) (part f) (at f) (before f) after row
-  two-toned row e dot toned =
+  two_toned : (row : Row) → row ≡ row_two_toned (at f) (mid f) end → dot_in (part f) ≡ true → is_toned (kind f) ≡ true → RowOf unicode16 false (kind f) (part f) (at f) (before f) after row
+  two_toned row e dot toned =
       subst (λ (r : Row). RowOf unicode16 false (kind f) (part f) (at f) (before f) after r) (sym e)
-      (two-toned-row false (kind f) (part f) (before f) after (at f) (two-front _ _ _ _ both) (form f Plain (kind f)) (two-first _ _ _ _ both) (mid f) (plain f).ends (form f Oo (kind f)) (two-second _ _ _ _ both) end both.ends
-      (form f Plain Detoned) (form f Oo Detoned) (addedKey unicode16 (kind f) (pointsOf (part f))) (form-toned (part f) f.requires.0 Plain (kind f) toned) (form-toned (part f) f.requires.0 Oo (kind f) toned) (several-toned (part f) f.requires.0 (kind f) toned true dot) (two-short _ _ _ _ both).1)
+      (two_toned_row false (kind f) (part f) (before f) after (at f) (two_front _ _ _ _ both) (form f Plain (kind f)) (two_first _ _ _ _ both) (mid f) (plain f).ends (form f Oo (kind f)) (two_second _ _ _ _ both) end both.ends
+      (form f Plain Detoned) (form f Oo Detoned) (added_key unicode16 (kind f) (points_of (part f))) (form_toned (part f) f.requires.0 Plain (kind f) toned) (form_toned (part f) f.requires.0 Oo (kind f) toned) (several_toned (part f) f.requires.0 (kind f) toned true dot) (two_short _ _ _ _ both).1)
 
 pub put_form-mid-requires : goal.put_form-mid-requires
-put_form-mid-requires c = (c.requires.0, first-room c.args.kind c.args.part.now c.args.forms.now c.args.at c.requires)
+put_form-mid-requires c = (c.requires.0, first_room c.args.kind c.args.part.now c.args.forms.now c.args.at c.requires)
 
 pub put_form-end-requires : goal.put_form-end-requires
 put_form-end-requires c =
-    (c.requires.0, (one-short _ _ _ _ (plain (goal.at.put_form-end-requires c).After-put_form-mid)).1)
+    (c.requires.0, (one_short _ _ _ _ (plain (goal.at.put_form-end-requires c).After-put_form-mid)).1)
 
 pub row_two_toned-requires : goal.row_two_toned-requires
 row_two_toned-requires c =
     let toned = sym c.is_toned.ensures ∙ c.if-is_toned.true in
-    omega (arith, (plain (goal.at.row_two_toned-requires c).After-put_form-mid).ends, (both (goal.at.row_two_toned-requires c).After-put_form-end).ends, two-short _ _ _ _ (both (goal.at.row_two_toned-requires c).After-put_form-end), longer (goal.at.row_two_toned-requires c).After-put_form-mid Plain toned, longer (goal.at.row_two_toned-requires c).After-put_form-mid Oo toned)
+    omega (arith, (plain (goal.at.row_two_toned-requires c).After-put_form-mid).ends, (both (goal.at.row_two_toned-requires c).After-put_form-end).ends, two_short _ _ _ _ (both (goal.at.row_two_toned-requires c).After-put_form-end), longer (goal.at.row_two_toned-requires c).After-put_form-mid Plain toned, longer (goal.at.row_two_toned-requires c).After-put_form-mid Oo toned)
 
 pub returns-then-is_toned : goal.returns-then-is_toned
 returns-then-is_toned c =
-    two-toned (goal.at.returns-then-is_toned c).After-put_form-mid (both (goal.at.returns-then-is_toned c).After-put_form-end) c.row_two_toned.result c.row_two_toned.ensures (sym c.holds_dot.ensures ∙ c.if-holds_dot.true) (sym c.is_toned.ensures ∙ c.if-is_toned.true)
+    two_toned (goal.at.returns-then-is_toned c).After-put_form-mid (both (goal.at.returns-then-is_toned c).After-put_form-end) c.row_two_toned.result c.row_two_toned.ensures (sym c.holds_dot.ensures ∙ c.if-holds_dot.true) (sym c.is_toned.ensures ∙ c.if-is_toned.true)
 
 pub row_two-requires : goal.row_two-requires
 row_two-requires c =
-    omega (arith, (plain (goal.at.row_two-requires c).After-put_form-mid).ends, (both (goal.at.row_two-requires c).After-put_form-end).ends, two-short _ _ _ _ (both (goal.at.row_two-requires c).After-put_form-end))
+    omega (arith, (plain (goal.at.row_two-requires c).After-put_form-mid).ends, (both (goal.at.row_two-requires c).After-put_form-end).ends, two_short _ _ _ _ (both (goal.at.row_two-requires c).After-put_form-end))
 
 pub returns-then-holds_dot : goal.returns-then-holds_dot
 returns-then-holds_dot c =
@@ -107,15 +107,15 @@ returns-then-holds_dot c =
 
 pub row_one_toned-requires : goal.row_one_toned-requires
 row_one_toned-requires c =
-    omega (arith, (plain (goal.at.row_one_toned-requires c).After-put_form-mid).ends, one-short _ _ _ _ (plain (goal.at.row_one_toned-requires c).After-put_form-mid), longer (goal.at.row_one_toned-requires c).After-put_form-mid Plain (sym c.is_toned-2.ensures ∙ c.if-is_toned-2.true))
+    omega (arith, (plain (goal.at.row_one_toned-requires c).After-put_form-mid).ends, one_short _ _ _ _ (plain (goal.at.row_one_toned-requires c).After-put_form-mid), longer (goal.at.row_one_toned-requires c).After-put_form-mid Plain (sym c.is_toned-2.ensures ∙ c.if-is_toned-2.true))
 
 pub returns-then-is_toned-2 : goal.returns-then-is_toned-2
 returns-then-is_toned-2 c =
-    one-toned (goal.at.returns-then-is_toned-2 c).After-put_form-mid c.row_one_toned.result c.row_one_toned.ensures (sym c.holds_dot.ensures ∙ c.if-holds_dot.false) (sym c.is_toned-2.ensures ∙ c.if-is_toned-2.true)
+    one_toned (goal.at.returns-then-is_toned-2 c).After-put_form-mid c.row_one_toned.result c.row_one_toned.ensures (sym c.holds_dot.ensures ∙ c.if-holds_dot.false) (sym c.is_toned-2.ensures ∙ c.if-is_toned-2.true)
 
 pub row_one-requires : goal.row_one-requires
 row_one-requires c =
-    omega (arith, (plain (goal.at.row_one-requires c).After-put_form-mid).ends, one-short _ _ _ _ (plain (goal.at.row_one-requires c).After-put_form-mid))
+    omega (arith, (plain (goal.at.row_one-requires c).After-put_form-mid).ends, one_short _ _ _ _ (plain (goal.at.row_one-requires c).After-put_form-mid))
 
 pub returns : goal.returns
 returns c =

@@ -6,10 +6,10 @@ use Prim.Native.Nat.{ℕ, ◌-◌, ◌≤◌}
 use lib.ListN.{length, take, drop}
 use Rattle.ji.specs.Unicode.{unicode16, same}
 use Rattle.ji.specs.declared.lomaji.keys.Form.TheVariants.{Plain, Oo}
-use Rattle.khiin_entries.specs.Choices.{formBytes, rowOne, rowTwo, RowOf}
+use Rattle.khiin_entries.specs.Choices.{form_bytes, row_one, row_two, RowOf}
 use Rattle.khiin_entries.specs.declared.key_sequence.Row.{Row}
-use Rattle.khiin_entries.proofs.key_sequence.Forms.{single-one, single-two}
-use Rattle.khiin_entries.proofs.key_sequence.Rows.{cut, one-row, two-row, first-room, one-short, TwoPut, two-length, two-first, two-second, two-front, two-short}
+use Rattle.khiin_entries.proofs.key_sequence.Forms.{single_one, single_two}
+use Rattle.khiin_entries.proofs.key_sequence.Rows.{cut, one_row, two_row, first_room, one_short, TwoPut, two_length, two_first, two_second, two_front, two_short}
 use native.Mathlib.Omega.{arith}
 use Rattle.khiin_entries.proofs.key_sequence.lay_single.Goals as goal
 use Rattle.khiin_entries.proofs.key_sequence.lay_single.Goals.{After-put_form-end}
@@ -34,10 +34,10 @@ module _ (b : After-put_form-end) where
   after = b.put_form-end.new.forms
 
   abbrev p : List ℕ
-  p = formBytes unicode16 Plain b.args.kind part
+  p = form_bytes unicode16 Plain b.args.kind part
 
   abbrev o : List ℕ
-  o = formBytes unicode16 Oo b.args.kind part
+  o = form_bytes unicode16 Oo b.args.kind part
 
   -- both forms are put
   both : TwoPut b.args.kind part before at mid end after
@@ -50,29 +50,29 @@ module _ (b : After-put_form-end) where
       }
 
   ordered : (at ≤ mid) × (mid ≤ end) × (end ≤ length after) × (end ≤ 65535)
-  ordered = (omega (arith, b.put_form-mid.ensures.0), (two-short _ _ _ _ both).0, omega (arith, (two-short _ _ _ _ both).2, two-length _ _ _ _ both), (two-short _ _ _ _ both).3)
+  ordered = (omega (arith, b.put_form-mid.ensures.0), (two_short _ _ _ _ both).0, omega (arith, (two_short _ _ _ _ both).2, two_length _ _ _ _ both), (two_short _ _ _ _ both).3)
 
   -- what the comparison says
   compared : (r : Bool) → r ≡ same (take (mid - at) (drop at after)) (take (end - mid) (drop mid after)) → same p o ≡ r
   compared r e =
-      sym (e ∙ ap₂ same (cut (two-first _ _ _ _ both) (mid - at) (omega (arith, b.put_form-mid.ensures.0))) (cut (two-second _ _ _ _ both) (end - mid) (omega (arith, b.put_form-end.ensures.0))))
+      sym (e ∙ ap₂ same (cut (two_first _ _ _ _ both) (mid - at) (omega (arith, b.put_form-mid.ensures.0))) (cut (two_second _ _ _ _ both) (end - mid) (omega (arith, b.put_form-end.ensures.0))))
 
-  one : (row : Row) → row ≡ rowOne at mid → same p o ≡ true → RowOf unicode16 true b.args.kind part at before after row
+  one : (row : Row) → row ≡ row_one at mid → same p o ≡ true → RowOf unicode16 true b.args.kind part at before after row
   one row e same =
       subst (λ (r : Row). RowOf unicode16 true b.args.kind part at before after r) (sym e)
-      (one-row true _ part before after at (two-front _ _ _ _ both) p (two-first _ _ _ _ both) mid b.put_form-mid.ensures.0 (single-one part b.requires.0 b.args.kind same) (one-short _ _ _ _ both.one).0)
+      (one_row true _ part before after at (two_front _ _ _ _ both) p (two_first _ _ _ _ both) mid b.put_form-mid.ensures.0 (single_one part b.requires.0 b.args.kind same) (one_short _ _ _ _ both.one).0)
 
-  two : (row : Row) → row ≡ rowTwo at mid end → same p o ≡ false → RowOf unicode16 true b.args.kind part at before after row
+  two : (row : Row) → row ≡ row_two at mid end → same p o ≡ false → RowOf unicode16 true b.args.kind part at before after row
   two row e differ =
       subst (λ (r : Row). RowOf unicode16 true b.args.kind part at before after r) (sym e)
-      (two-row true _ part before after at (two-front _ _ _ _ both) p (two-first _ _ _ _ both) mid b.put_form-mid.ensures.0 o (two-second _ _ _ _ both) end b.put_form-end.ensures.0 (single-two part b.requires.0 b.args.kind differ) (two-short _ _ _ _ both).1)
+      (two_row true _ part before after at (two_front _ _ _ _ both) p (two_first _ _ _ _ both) mid b.put_form-mid.ensures.0 o (two_second _ _ _ _ both) end b.put_form-end.ensures.0 (single_two part b.requires.0 b.args.kind differ) (two_short _ _ _ _ both).1)
 
 pub put_form-mid-requires : goal.put_form-mid-requires
-put_form-mid-requires c = (c.requires.0, first-room c.args.kind c.args.part.now c.args.forms.now c.args.at c.requires)
+put_form-mid-requires c = (c.requires.0, first_room c.args.kind c.args.part.now c.args.forms.now c.args.at c.requires)
 
 pub put_form-end-requires : goal.put_form-end-requires
 put_form-end-requires c =
-    (c.requires.0, (one-short c.args.kind c.args.part.now c.args.forms.now c.args.at (record { room = c.requires; ends = c.put_form-mid.ensures.0; put = c.put_form-mid.ensures.1 })).1)
+    (c.requires.0, (one_short c.args.kind c.args.part.now c.args.forms.now c.args.at (record { room = c.requires; ends = c.put_form-mid.ensures.0; put = c.put_form-mid.ensures.1 })).1)
 
 pub slice_bounds-same-start : goal.slice_bounds-same-start
 slice_bounds-same-start c = omega (arith, ordered (goal.at.slice_bounds-same-start c).After-put_form-end)

@@ -2,22 +2,22 @@
 use mathlib.Core.Path.{ap}
 use Prim.Native.Nat.{ℕ, ◌+◌}
 use Rattle.ji.specs.Unicode.{unicode16}
-use Rattle.khiin_entries.specs.Choices.{formBytes}
-use Rattle.khiin_entries.proofs.key_sequence.Forms.{call-length, call-buffer, call-answers}
-use Rattle.khiin_entries.proofs.key_sequence.Writing.{part-room, put-back}
+use Rattle.khiin_entries.specs.Choices.{form_bytes}
+use Rattle.khiin_entries.proofs.key_sequence.Forms.{call_length, call_buffer, call_answers}
+use Rattle.khiin_entries.proofs.key_sequence.Writing.{part_room, put_back}
 use native.Mathlib.Omega.{arith}
 use Rattle.khiin_entries.proofs.key_sequence.put_form.Goals as goal
 
 pub overflow_add-result : goal.overflow_add-result
 overflow_add-result c =
-    omega (arith, call-length c.args.form c.args.kind c.args.part.now _ c.requires.0 (part-room c.args.forms.now c.args.at _ c.requires.1) c.keys.result _ c.keys.ensures _ c.in-Done.is)
+    omega (arith, call_length c.args.form c.args.kind c.args.part.now _ c.requires.0 (part_room c.args.forms.now c.args.at _ c.requires.1) c.keys.result _ c.keys.ensures _ c.in-Done.is)
 
 pub returns-in-Done : goal.returns-in-Done
 returns-in-Done c = (
-  ap (λ (n : ℕ). c.args.at + n) (call-length c.args.form c.args.kind c.args.part.now _ c.requires.0 (part-room c.args.forms.now c.args.at _ c.requires.1) c.keys.result _ c.keys.ensures _ c.in-Done.is),
-  put-back c.args.forms.now (formBytes unicode16 c.args.form c.args.kind c.args.part.now) _ c.args.at c.requires.1 (call-buffer c.args.form c.args.kind c.args.part.now _ c.requires.0 (part-room c.args.forms.now c.args.at _ c.requires.1) c.keys.result _ c.keys.ensures _ c.in-Done.is),
+  ap (λ (n : ℕ). c.args.at + n) (call_length c.args.form c.args.kind c.args.part.now _ c.requires.0 (part_room c.args.forms.now c.args.at _ c.requires.1) c.keys.result _ c.keys.ensures _ c.in-Done.is),
+  put_back c.args.forms.now (form_bytes unicode16 c.args.form c.args.kind c.args.part.now) _ c.args.at c.requires.1 (call_buffer c.args.form c.args.kind c.args.part.now _ c.requires.0 (part_room c.args.forms.now c.args.at _ c.requires.1) c.keys.result _ c.keys.ensures _ c.in-Done.is),
 )
 
 pub returns-in-Refused : goal.returns-in-Refused
 returns-in-Refused c =
-    absurd (call-answers c.args.form c.args.kind c.args.part.now _ c.requires.0 (part-room c.args.forms.now c.args.at _ c.requires.1) c.keys.result _ c.keys.ensures _ c.in-Refused.is)
+    absurd (call_answers c.args.form c.args.kind c.args.part.now _ c.requires.0 (part_room c.args.forms.now c.args.at _ c.requires.1) c.keys.result _ c.keys.ensures _ c.in-Refused.is)

@@ -3,22 +3,22 @@ use mathlib.Core.Bool.{true}
 use Prim.Native.Nat.{◌-◌}
 use native.Mathlib.Nat.{sub-zero}
 use Rattle.ji.specs.Unicode.{unicode16}
-use Rattle.ji.specs.Tone.{isTone}
-use Rattle.ji.specs.Lomaji.Strip.{strip, stripReply}
-use Rattle.ji.specs.Lomaji.Khin.{withoutKhin, khinIn}
+use Rattle.ji.specs.Tone.{is_tone}
+use Rattle.ji.specs.Lomaji.Strip.{strip, strip_reply}
+use Rattle.ji.specs.Lomaji.Khin.{without_khin, khin_in}
 use Rattle.ji.specs.declared.tone.Tone.{Tone}
 use Rattle.ji.specs.declared.lomaji.strip.Strip.{Strip}
 use Rattle.ji.specs.declared.lomaji.strip.Strip.TheVariants.{Done}
 use Rattle.ji.specs.declared.lomaji.strip.StripResult.{StripResult}
-use Rattle.ji.proofs.Writing.{written-length}
+use Rattle.ji.proofs.Writing.{written_length}
 use Rattle.ji.proofs.Readings.{front}
-use Rattle.ji.proofs.unicode.Ascii.{ascii-take}
-use Rattle.ji.proofs.lomaji.strip.Answers.{Stripping, strip-done, strip-not}
-use Rattle.ji.proofs.unicode.Checked.{text-passed}
-use Rattle.khiin_records.specs.Syllable.{candidatesOf}
-use Rattle.khiin_records.specs.Alignment.{nearestOf, alignedWith}
-use Rattle.khiin_records.proofs.Candidates.{some-points, tone-some}
-use Rattle.khiin_records.proofs.Prefixes.{aligned-inside, aligned-text, align-target-refused, align-target-good}
+use Rattle.ji.proofs.unicode.Ascii.{ascii_take}
+use Rattle.ji.proofs.lomaji.strip.Answers.{Stripping, strip_done, strip_not}
+use Rattle.ji.proofs.unicode.Checked.{text_passed}
+use Rattle.khiin_records.specs.Syllable.{candidates_of}
+use Rattle.khiin_records.specs.Alignment.{nearest_of, aligned_with}
+use Rattle.khiin_records.proofs.Candidates.{some_points, tone_some}
+use Rattle.khiin_records.proofs.Prefixes.{aligned_inside, aligned_text, align_target_refused, align_target_good}
 use native.Mathlib.Omega.{arith}
 use Rattle.khiin_records.proofs.alignment.align_in.Goals as goal
 use Rattle.khiin_records.proofs.alignment.align_in.Goals.{After-strip_tone_diacritic}
@@ -28,14 +28,14 @@ module _ (c : After-strip_tone_diacritic) where
   module _ (r : StripResult) (is : c.strip_tone_diacritic.result ≡ Done r) where
     done : Stripping c.args.target.now c.args.stripped.now c.strip_tone_diacritic.new.out r
     done =
-        strip-done c.args.target.now c.args.stripped.now c.strip_tone_diacritic.new.out r
-        (ap (λ (x : Strip). stripReply x c.strip_tone_diacritic.new.out) (sym is) ∙ c.strip_tone_diacritic.ensures)
+        strip_done c.args.target.now c.args.stripped.now c.strip_tone_diacritic.new.out r
+        (ap (λ (x : Strip). strip_reply x c.strip_tone_diacritic.new.out) (sym is) ∙ c.strip_tone_diacritic.ensures)
 
-    toned : isTone r.tone ≡ true
-    toned = ap isTone done.tone ∙ tone-some unicode16 done.points
+    toned : is_tone r.tone ≡ true
+    toned = ap is_tone done.tone ∙ tone_some unicode16 done.points
 
 pub slice_bounds-align_stripped-end : goal.slice_bounds-align_stripped-end
-slice_bounds-align_stripped-end c = let w = (done (goal.at.slice_bounds-align_stripped-end c).After-strip_tone_diacritic c.in-Done.result c.in-Done.is).written in omega (arith, w.fits, written-length w)
+slice_bounds-align_stripped-end c = let w = (done (goal.at.slice_bounds-align_stripped-end c).After-strip_tone_diacritic c.in-Done.result c.in-Done.is).written in omega (arith, w.fits, written_length w)
 
 pub align_stripped-count-requires : goal.align_stripped-count-requires
 align_stripped-count-requires c =
@@ -46,13 +46,13 @@ pub slice_bounds-place_keys-end : goal.slice_bounds-place_keys-end
 slice_bounds-place_keys-end c =
     let h = done (goal.at.slice_bounds-place_keys-end c).After-strip_tone_diacritic c.in-Done.result c.in-Done.is in
     let v = (strip unicode16 h.points).rest in
-    omega (arith, c.align_stripped-count.ensures v (front h.written), aligned-inside c.args.keys.now c.in-Done.result.tone (khinIn v) (withoutKhin v) (toned (goal.at.slice_bounds-place_keys-end c).After-strip_tone_diacritic c.in-Done.result c.in-Done.is))
+    omega (arith, c.align_stripped-count.ensures v (front h.written), aligned_inside c.args.keys.now c.in-Done.result.tone (khin_in v) (without_khin v) (toned (goal.at.slice_bounds-place_keys-end c).After-strip_tone_diacritic c.in-Done.result c.in-Done.is))
 
 pub returns-in-Refused : goal.returns-in-Refused
 returns-in-Refused c =
-    align-target-refused unicode16 c.args.keys.now c.args.target.now c.args.out.now c.in-Refused.why
-    (strip-not c.args.target.now c.args.stripped.now c.strip_tone_diacritic.new.out c.in-Refused.why c.requires.2
-    (ap (λ (x : Strip). stripReply x c.strip_tone_diacritic.new.out) (sym c.in-Refused.is) ∙ c.strip_tone_diacritic.ensures))
+    align_target_refused unicode16 c.args.keys.now c.args.target.now c.args.out.now c.in-Refused.why
+    (strip_not c.args.target.now c.args.stripped.now c.strip_tone_diacritic.new.out c.in-Refused.why c.requires.2
+    (ap (λ (x : Strip). strip_reply x c.strip_tone_diacritic.new.out) (sym c.in-Refused.is) ∙ c.strip_tone_diacritic.ensures))
 
 pub returns-in-Done : goal.returns-in-Done
 returns-in-Done c =
@@ -61,9 +61,9 @@ returns-in-Done c =
     let u = h.points in
     let v = (strip unicode16 u).rest in
     let n = c.align_stripped-count in
-    c.place_keys.ensures (ascii-take (n.result - 0) keys c.requires.0)
-    ∙ align-target-good unicode16 keys c.args.target.now c.args.out.now (n.result - 0) u h.good
+    c.place_keys.ensures (ascii_take (n.result - 0) keys c.requires.0)
+    ∙ align_target_good unicode16 keys c.args.target.now c.args.out.now (n.result - 0) u h.good
     (sub-zero n.result
     ∙ n.ensures v (front h.written)
-    ∙ ap (λ (t : Tone). alignedWith keys (nearestOf keys (candidatesOf t (khinIn v) (withoutKhin v)))) h.tone
-    ∙ aligned-text unicode16 keys u (some-points c.args.target.now u (text-passed c.args.target.now u h.good).written c.requires.1))
+    ∙ ap (λ (t : Tone). aligned_with keys (nearest_of keys (candidates_of t (khin_in v) (without_khin v)))) h.tone
+    ∙ aligned_text unicode16 keys u (some_points c.args.target.now u (text_passed c.args.target.now u h.good).written c.requires.1))

@@ -1,27 +1,27 @@
 use mathlib.Core.Path.{ap, ◌∙◌}
 use mathlib.Core.List.{◌++◌}
 use Rattle.ji.specs.Written.{Written}
-use Rattle.ji.proofs.Writing.{written-length}
+use Rattle.ji.proofs.Writing.{written_length}
 use Rattle.ji.proofs.Readings.{front}
-use Rattle.khiin_records.specs.Syllable.{toneDigit, khinKey}
-use Rattle.khiin_records.specs.RawBytes.{bodyOf}
-use Rattle.khiin_records.specs.Alignment.{sharedPrefix}
-use Rattle.khiin_records.proofs.Prefixes.{raw-written}
+use Rattle.khiin_records.specs.Syllable.{tone_digit, khin_key}
+use Rattle.khiin_records.specs.RawBytes.{body_of}
+use Rattle.khiin_records.specs.Alignment.{shared_prefix}
+use Rattle.khiin_records.proofs.Prefixes.{raw_written}
 use native.Mathlib.Omega.{arith}
 use Rattle.khiin_records.proofs.alignment.candidate_prefix.Goals as goal
 use Rattle.khiin_records.proofs.alignment.candidate_prefix.Goals.{After-put_keys-len}
 
 -- the raw input was written
 module _ (c : After-put_keys-len) where
-  whole : Written c.args.letters.now c.put_keys-len.new.out c.put_keys-len.result ((bodyOf c.args.vowel c.args.s.now).text ++ (toneDigit c.args.tone ++ khinKey c.args.khin))
+  whole : Written c.args.letters.now c.put_keys-len.new.out c.put_keys-len.result ((body_of c.args.vowel c.args.s.now).text ++ (tone_digit c.args.tone ++ khin_key c.args.khin))
   whole =
       let w = c.spell-spelled in
-      raw-written c.args.tone c.args.khin c.args.letters.now w.new.out c.put_keys-len.new.out w.result.len c.put_keys-len.result _
+      raw_written c.args.tone c.args.khin c.args.letters.now w.new.out c.put_keys-len.new.out w.result.len c.put_keys-len.result _
       w.ensures.0 c.put_keys-len.ensures.0 c.put_keys-len.ensures.1 (omega (arith, w.ensures.1, c.requires.1))
 
 pub slice_bounds-shared_prefix-end : goal.slice_bounds-shared_prefix-end
-slice_bounds-shared_prefix-end c = let w = whole (goal.at.slice_bounds-shared_prefix-end c).After-put_keys-len in omega (arith, w.fits, written-length w)
+slice_bounds-shared_prefix-end c = let w = whole (goal.at.slice_bounds-shared_prefix-end c).After-put_keys-len in omega (arith, w.fits, written_length w)
 
 pub returns : goal.returns
 returns c =
-    c.shared_prefix.ensures ∙ ap (sharedPrefix c.args.keys.now) (front (whole (goal.at.returns c).After-put_keys-len))
+    c.shared_prefix.ensures ∙ ap (shared_prefix c.args.keys.now) (front (whole (goal.at.returns c).After-put_keys-len))

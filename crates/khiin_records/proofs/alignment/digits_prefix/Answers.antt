@@ -3,22 +3,22 @@ use mathlib.Core.Bool.{Bool}
 use mathlib.Core.List.{◌++◌}
 use Prim.Native.Nat.{ℕ, suc, ◌+◌}
 use lib.ListN.{drop}
-use Rattle.ji.specs.Unicode.{pickNumber}
-use Rattle.khiin_records.specs.Syllable.{toneDigit, khinKey}
-use Rattle.khiin_records.specs.Alignment.{sharedPrefix}
-use Rattle.khiin_records.proofs.Prefixes.{digits-first}
+use Rattle.ji.specs.Unicode.{pick_number}
+use Rattle.khiin_records.specs.Syllable.{tone_digit, khin_key}
+use Rattle.khiin_records.specs.Alignment.{shared_prefix}
+use Rattle.khiin_records.proofs.Prefixes.{digits_first}
 use native.Mathlib.Omega.{arith}
 use Rattle.khiin_records.proofs.alignment.digits_prefix.Goals as goal
 use Rattle.khiin_records.proofs.alignment.digits_prefix.Goals.{After-is_key_at}
 
 -- whether the tone digit is shared
 first : (c : After-is_key_at) (b : Bool) → c.is_key_at.result ≡ b
-    → sharedPrefix (drop c.args.at c.args.keys.now) (toneDigit c.args.tone ++ khinKey c.args.khin)
-    ≡ pickNumber b (suc (sharedPrefix (drop (c.args.at + 1) c.args.keys.now) (khinKey c.args.khin))) 0
+    → shared_prefix (drop c.args.at c.args.keys.now) (tone_digit c.args.tone ++ khin_key c.args.khin)
+    ≡ pick_number b (suc (shared_prefix (drop (c.args.at + 1) c.args.keys.now) (khin_key c.args.khin))) 0
 first c b is =
     let a = c.before.before.before in
-    digits-first a.args.keys.now a.args.at a.args.tone a.args.khin a.requires.0 (48 + c.number.result) (ap (λ (n : ℕ). 48 + n) c.number.ensures.0) c.is_key_at.result c.is_key_at.ensures
-    ∙ ap (λ (x : Bool). pickNumber x (suc (sharedPrefix (drop (a.args.at + 1) a.args.keys.now) (khinKey a.args.khin))) 0) is
+    digits_first a.args.keys.now a.args.at a.args.tone a.args.khin a.requires.0 (48 + c.number.result) (ap (λ (n : ℕ). 48 + n) c.number.ensures.0) c.is_key_at.result c.is_key_at.ensures
+    ∙ ap (λ (x : Bool). pick_number x (suc (shared_prefix (drop (a.args.at + 1) a.args.keys.now) (khin_key a.args.khin))) 0) is
 
 pub returns-then-is_key_at : goal.returns-then-is_key_at
 returns-then-is_key_at c = omega (arith, first (goal.at.returns-then-is_key_at c).After-is_key_at _ c.if-is_key_at.true, c.khin_prefix.ensures.0)

@@ -1,6 +1,6 @@
 use mathlib.Core.Path.{sym, ◌∙◌}
 use mathlib.Core.Bool.{true, false}
-use Rattle.khiin_records.proofs.Prefixes.{prefix-fits, nearest-alone, nearest-of-two}
+use Rattle.khiin_records.proofs.Prefixes.{prefix_fits, nearest_alone, nearest_of_two}
 use Rattle.khiin_records.proofs.alignment.spelled_prefix.Goals as goal
 
 pub returns-then-takes_later : goal.returns-then-takes_later
@@ -8,9 +8,9 @@ returns-then-takes_later c =
     let earlier = c.candidate_prefix-earlier in
     let later = c.candidate_prefix-later in
     record {
-      inside = rw later.ensures (prefix-fits _ _);
+      inside = rw later.ensures (prefix_fits _ _);
       shared = λ u e.
-          nearest-of-two c.args.keys.now c.args.tone c.args.khin u c.args.s.now e c.requires.1 earlier.result later.result earlier.ensures later.ensures
+          nearest_of_two c.args.keys.now c.args.tone c.args.khin u c.args.s.now e c.requires.1 earlier.result later.result earlier.ensures later.ensures
           (sym c.holds_dot.ensures ∙ c.if-holds_dot.true) true (sym c.takes_later.ensures ∙ c.if-takes_later.true);
     }
 
@@ -19,9 +19,9 @@ returns-else-takes_later c =
     let earlier = c.candidate_prefix-earlier in
     let later = c.candidate_prefix-later in
     record {
-      inside = rw earlier.ensures (prefix-fits _ _);
+      inside = rw earlier.ensures (prefix_fits _ _);
       shared = λ u e.
-          nearest-of-two c.args.keys.now c.args.tone c.args.khin u c.args.s.now e c.requires.1 earlier.result later.result earlier.ensures later.ensures
+          nearest_of_two c.args.keys.now c.args.tone c.args.khin u c.args.s.now e c.requires.1 earlier.result later.result earlier.ensures later.ensures
           (sym c.holds_dot.ensures ∙ c.if-holds_dot.true) false (sym c.takes_later.ensures ∙ c.if-takes_later.false);
     }
 
@@ -29,7 +29,7 @@ pub returns-else-holds_dot : goal.returns-else-holds_dot
 returns-else-holds_dot c =
     let earlier = c.candidate_prefix-earlier in
     record {
-      inside = rw earlier.ensures (prefix-fits _ _);
+      inside = rw earlier.ensures (prefix_fits _ _);
       shared = λ u e.
-          nearest-alone c.args.keys.now c.args.tone c.args.khin u c.args.s.now e c.requires.1 earlier.result earlier.ensures (sym c.holds_dot.ensures ∙ c.if-holds_dot.false);
+          nearest_alone c.args.keys.now c.args.tone c.args.khin u c.args.s.now e c.requires.1 earlier.result earlier.ensures (sym c.holds_dot.ensures ∙ c.if-holds_dot.false);
     }

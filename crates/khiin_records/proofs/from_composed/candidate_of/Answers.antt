@@ -6,19 +6,19 @@ use Prim.Native.Nat.{ℕ, ◌≤◌}
 use Rattle.ji.specs.Unicode.{unicode16, members}
 use Rattle.ji.specs.Utf8.{decode, encode}
 use Rattle.ji.specs.Written.{Written}
-use Rattle.ji.specs.Reply.{good, checkPoints}
-use Rattle.ji.specs.Reading.{pointsReply, pointsCall}
-use Rattle.ji.specs.Lomaji.Khin.{afterKhin, khinOf, withoutKhin, khinIn}
+use Rattle.ji.specs.Reply.{good, check_points}
+use Rattle.ji.specs.Reading.{points_reply, points_call}
+use Rattle.ji.specs.Lomaji.Khin.{after_khin, khin_of, without_khin, khin_in}
 use Rattle.ji.specs.declared.lomaji.khin.Khin.{Khin}
 use Rattle.ji.specs.declared.unicode.CharLen.{CharLen}
 use Rattle.ji.specs.declared.unicode.Decoded.TheVariants.{Points}
-use Rattle.ji.proofs.Writing.{written-length}
+use Rattle.ji.proofs.Writing.{written_length}
 use Rattle.ji.proofs.Readings.{front}
-use Rattle.ji.proofs.Points.{points-done, points-refused}
-use Rattle.ji.proofs.lomaji.khin.Laws.{after-khin-length, after-points, khin-points}
-use Rattle.khiin_records.specs.Syllable.{candidatesOf, candidateIn}
-use Rattle.ji.proofs.unicode.Checked.{bytes-good, good-same, good-not-bad}
-use Rattle.khiin_records.proofs.Records.{members-behind}
+use Rattle.ji.proofs.Points.{points_done, points_refused}
+use Rattle.ji.proofs.lomaji.khin.Laws.{after_khin_length, after_points, khin_points}
+use Rattle.khiin_records.specs.Syllable.{candidates_of, candidate_in}
+use Rattle.ji.proofs.unicode.Checked.{bytes_good, good_same, good_not_bad}
+use Rattle.khiin_records.proofs.Records.{members_behind}
 use native.Mathlib.Omega.{arith}
 use Rattle.khiin_records.proofs.from_composed.candidate_of.Goals as goal
 use Rattle.khiin_records.proofs.from_composed.candidate_of.Goals.{After-points}
@@ -26,22 +26,22 @@ use Rattle.khiin_records.proofs.from_composed.candidate_of.Goals.{After-points}
 -- the rest behind khin was read
 module _ (c : After-points) where
   abbrev rest : List ℕ
-  rest = afterKhin c.args.stripped.now
+  rest = after_khin c.args.stripped.now
 
   room : length rest ≤ length c.args.points.now
-  room = let p = c.requires.0 in omega (arith, p, after-khin-length c.args.stripped.now)
+  room = let p = c.requires.0 in omega (arith, p, after_khin_length c.args.stripped.now)
 
-  called : pointsReply c.points.result c.points.new.out ≡ pointsCall unicode16 rest c.args.points.now
+  called : points_reply c.points.result c.points.new.out ≡ points_call unicode16 rest c.args.points.now
   called = rw c.strip_khin-rest.ensures at c.points.ensures
 
-  good-rest : (u : List ℕ) → members unicode16 u ≡ true → c.args.stripped.now ≡ encode u → checkPoints unicode16 (decode rest) ≡ good (withoutKhin u)
-  good-rest u m e = bytes-good rest (withoutKhin u) (members-behind u m) (ap afterKhin e ∙ after-points u)
+  good_rest : (u : List ℕ) → members unicode16 u ≡ true → c.args.stripped.now ≡ encode u → check_points unicode16 (decode rest) ≡ good (without_khin u)
+  good_rest u m e = bytes_good rest (without_khin u) (members_behind u m) (ap after_khin e ∙ after_points u)
 
-  read : (len : CharLen) → c.points.result ≡ Points len → (w : List ℕ) × (checkPoints unicode16 (decode rest) ≡ good w) × Written c.args.points.now c.points.new.out len.0 w
-  read len is = points-done rest c.args.points.now c.points.new.out room called len is
+  read : (len : CharLen) → c.points.result ≡ Points len → (w : List ℕ) × (check_points unicode16 (decode rest) ≡ good w) × Written c.args.points.now c.points.new.out len.0 w
+  read len is = points_done rest c.args.points.now c.points.new.out room called len is
 
 pub slice_bounds-choose-end : goal.slice_bounds-choose-end
-slice_bounds-choose-end c = let w = (read (goal.at.slice_bounds-choose-end c).After-points c.in-Points.len c.in-Points.is).2 in omega (arith, w.fits, written-length w)
+slice_bounds-choose-end c = let w = (read (goal.at.slice_bounds-choose-end c).After-points c.in-Points.len c.in-Points.is).2 in omega (arith, w.fits, written_length w)
 
 pub choose-requires : goal.choose-requires
 choose-requires c =
@@ -53,15 +53,15 @@ pub returns-in-Refused : goal.returns-in-Refused
 returns-in-Refused c =
     let at-points = (goal.at.returns-in-Refused c).After-points in
     λ u m e.
-    absurd (good-not-bad (sym (good-rest at-points u m e) ∙ points-refused (rest at-points) c.args.points.now c.points.new.out (room at-points) (called at-points) c.in-Refused.why c.in-Refused.is))
+    absurd (good_not_bad (sym (good_rest at-points u m e) ∙ points_refused (rest at-points) c.args.points.now c.points.new.out (room at-points) (called at-points) c.in-Refused.why c.in-Refused.is))
 
 pub returns-in-Points : goal.returns-in-Points
 returns-in-Points c =
     let a = c.args in
     let h = read (goal.at.returns-in-Points c).After-points c.in-Points.len c.in-Points.is in
     λ u m e.
-    let same : h.0 ≡ withoutKhin u = good-same (sym h.1 ∙ good-rest (goal.at.returns-in-Points c).After-points u m e) in
-    let khin : c.khin_of-khin.result ≡ khinIn u = c.khin_of-khin.ensures ∙ ap khinOf e ∙ khin-points u in
+    let same : h.0 ≡ without_khin u = good_same (sym h.1 ∙ good_rest (goal.at.returns-in-Points c).After-points u m e) in
+    let khin : c.khin_of-khin.result ≡ khin_in u = c.khin_of-khin.ensures ∙ ap khin_of e ∙ khin_points u in
     c.choose.ensures
-    ∙ ap (λ (v : List ℕ). candidateIn (candidatesOf a.tone c.khin_of-khin.result v) a.position a.out.now) (front h.2 ∙ same)
-    ∙ ap (λ (k : Khin). candidateIn (candidatesOf a.tone k (withoutKhin u)) a.position a.out.now) khin
+    ∙ ap (λ (v : List ℕ). candidate_in (candidates_of a.tone c.khin_of-khin.result v) a.position a.out.now) (front h.2 ∙ same)
+    ∙ ap (λ (k : Khin). candidate_in (candidates_of a.tone k (without_khin u)) a.position a.out.now) khin

@@ -1,21 +1,21 @@
-use Rattle.ji.proofs.Writing.{written-length}
-use Rattle.khiin_records.proofs.Walking.{walk-start, walk-ascii}
+use Rattle.ji.proofs.Writing.{written_length}
+use Rattle.khiin_records.proofs.Walking.{walk_start, walk_ascii}
 use native.Mathlib.Omega.{arith}
 use Rattle.khiin_records.proofs.from_composed.copy_ascii.Goals as goal
 
 pub loop-i-init : goal.loop-i-init
-loop-i-init c = λ vowel. walk-start vowel c.args.s.now c.args.out.now
+loop-i-init c = λ vowel. walk_start vowel c.args.s.now c.args.out.now
 
 pub returns-then-b-ge128 : goal.returns-then-b-ge128
 returns-then-b-ge128 c = c.loop-i.invariant
 
 pub bounds-out-i : goal.bounds-out-i
-bounds-out-i c = let l = c.loop-i in omega (arith, written-length (l.invariant 0).written, c.requires, c.loop-i-test.true)
+bounds-out-i c = let l = c.loop-i in omega (arith, written_length (l.invariant 0).written, c.requires, c.loop-i-test.true)
 
 pub loop-i-preserved : goal.loop-i-preserved
 loop-i-preserved c =
     let l = c.loop-i in
-    λ vowel. walk-ascii (l.invariant vowel) c.loop-i-test.true (omega (arith, c.if-b-ge128.false)) (omega (arith, c.requires, c.loop-i-test.true))
+    λ vowel. walk_ascii (l.invariant vowel) c.loop-i-test.true (omega (arith, c.if-b-ge128.false)) (omega (arith, c.requires, c.loop-i-test.true))
 
 pub returns : goal.returns
 returns c = c.loop-i.invariant

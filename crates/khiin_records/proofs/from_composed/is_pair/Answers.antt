@@ -5,19 +5,19 @@ use Prim.Native.Nat.{◌+◌}
 use borrow.Author.Tests.{eq-eqb, ne_eqb}
 use lib.Dec.{eqb}
 use lib.ListN.{get_or}
-use Rattle.ji.proofs.Bools.{and-yes, and-no, and-true}
-use Rattle.khiin_records.proofs.Walking.{begins-first, begins-over, begins-nothing}
+use Rattle.ji.proofs.Bools.{and_yes, and_no, and_true}
+use Rattle.khiin_records.proofs.Walking.{begins_first, begins_over, begins_nothing}
 use Rattle.khiin_records.proofs.from_composed.is_pair.Goals as goal
 
 pub returns-then-at-s : goal.returns-then-at-s
 returns-then-at-s c =
     let a = c.args in
-    sym (begins-first a.a (a.b ∷ []) a.s.now a.at c.requires ∙ and-yes _ _ (eq-eqb _ _ c.if-s-at.true) ∙ begins-first a.b [] a.s.now (a.at + 1) c.if-at-s.true ∙ ap (λ (t : Bool). eqb (get_or a.s.now (a.at + 1) 0) a.b && t) (begins-nothing _) ∙ and-true _)
+    sym (begins_first a.a (a.b ∷ []) a.s.now a.at c.requires ∙ and_yes _ _ (eq-eqb _ _ c.if-s-at.true) ∙ begins_first a.b [] a.s.now (a.at + 1) c.if-at-s.true ∙ ap (λ (t : Bool). eqb (get_or a.s.now (a.at + 1) 0) a.b && t) (begins_nothing _) ∙ and_true _)
 
 pub returns-else-at-s : goal.returns-else-at-s
 returns-else-at-s c =
     let a = c.args in
-    sym (begins-first a.a (a.b ∷ []) a.s.now a.at c.requires ∙ and-yes _ _ (eq-eqb _ _ c.if-s-at.true) ∙ begins-over a.b [] a.s.now (a.at + 1) c.if-at-s.false)
+    sym (begins_first a.a (a.b ∷ []) a.s.now a.at c.requires ∙ and_yes _ _ (eq-eqb _ _ c.if-s-at.true) ∙ begins_over a.b [] a.s.now (a.at + 1) c.if-at-s.false)
 
 pub returns-else-s-at : goal.returns-else-s-at
-returns-else-s-at c = let a = c.args in sym (begins-first a.a (a.b ∷ []) a.s.now a.at c.requires ∙ and-no _ _ (ne_eqb _ _ c.if-s-at.false))
+returns-else-s-at c = let a = c.args in sym (begins_first a.a (a.b ∷ []) a.s.now a.at c.requires ∙ and_no _ _ (ne_eqb _ _ c.if-s-at.false))

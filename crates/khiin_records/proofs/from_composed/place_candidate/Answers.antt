@@ -3,13 +3,13 @@ use mathlib.Core.List.{List, [], ◌∷◌, ◌++◌}
 use Prim.Native.Nat.{ℕ, ◌+◌}
 use lib.ListN.{length}
 use Rattle.ji.specs.Utf8.{encode}
-use Rattle.ji.specs.Reply.{textReply, placed}
+use Rattle.ji.specs.Reply.{text_reply, placed}
 use Rattle.ji.specs.declared.reply.TextAnswer.{TextAnswer}
 use Rattle.ji.specs.declared.reply.TextAnswer.TheVariants.{Done}
 use Rattle.ji.specs.declared.unicode.ByteLen.{ByteLen}
 use Rattle.ji.proofs.Readings.{front}
-use Rattle.khiin_records.specs.Syllable.{Syllable, raw, toneDigit, khinKey, candidate}
-use Rattle.khiin_records.proofs.Records.{textIn, record-refused, record-done, written-size, raw-size}
+use Rattle.khiin_records.specs.Syllable.{Syllable, raw, tone_digit, khin_key, candidate}
+use Rattle.khiin_records.proofs.Records.{text_in, record_refused, record_done, written_size, raw_size}
 use native.Mathlib.Omega.{arith}
 use Rattle.khiin_records.proofs.from_composed.place_candidate.Goals as goal
 use Rattle.khiin_records.proofs.from_composed.place_candidate.Goals.{After-place}
@@ -19,19 +19,19 @@ module _ (c : After-place) where
   abbrev made : Syllable
   made = candidate c.args.tone c.args.khin c.args.s.now (c.args.vowel ∷ [])
 
-  placed-raw : textReply c.place.result c.place.new.out ≡ placed 0 (encode (raw made)) c.args.out.now
-  placed-raw =
+  placed_raw : text_reply c.place.result c.place.new.out ≡ placed 0 (encode (raw made)) c.args.out.now
+  placed_raw =
       c.place.ensures
       ∙ ap (λ (l : List ℕ). placed 0 (encode l) c.args.out.now) (front c.write_raw-n.ensures)
 
   module _ (len : ByteLen) (is : c.place.result ≡ Done len) where
-    told : textIn len.0 c.place.new.out ≡ placed 0 (encode (raw made)) c.args.out.now
-    told = ap (λ (x : TextAnswer). textReply x c.place.new.out) (sym is) ∙ placed-raw
+    told : text_in len.0 c.place.new.out ≡ placed 0 (encode (raw made)) c.args.out.now
+    told = ap (λ (x : TextAnswer). text_reply x c.place.new.out) (sym is) ∙ placed_raw
 
-    size : len.0 ≡ length (encode made.body) + length (toneDigit c.args.tone ++ khinKey c.args.khin)
+    size : len.0 ≡ length (encode made.body) + length (tone_digit c.args.tone ++ khin_key c.args.khin)
     size =
-        written-size len.0 (encode (raw made)) c.place.new.out c.args.out.now told
-        ∙ raw-size made c.args.tone c.args.khin refl
+        written_size len.0 (encode (raw made)) c.place.new.out c.args.out.now told
+        ∙ raw_size made c.args.tone c.args.khin refl
 
 pub overflow_sub-result : goal.overflow_sub-result
 overflow_sub-result c =
@@ -40,17 +40,17 @@ overflow_sub-result c =
 pub returns-in-Refused : goal.returns-in-Refused
 returns-in-Refused c =
     let a = c.args in
-    record-refused a.count (made (goal.at.returns-in-Refused c).After-place) (encode (raw (made (goal.at.returns-in-Refused c).After-place))) a.out.now refl c.in-Refused.why c.place.new.out (ap (λ (x : TextAnswer). textReply x c.place.new.out) (sym c.in-Refused.is) ∙ placed-raw (goal.at.returns-in-Refused c).After-place)
+    record_refused a.count (made (goal.at.returns-in-Refused c).After-place) (encode (raw (made (goal.at.returns-in-Refused c).After-place))) a.out.now refl c.in-Refused.why c.place.new.out (ap (λ (x : TextAnswer). text_reply x c.place.new.out) (sym c.in-Refused.is) ∙ placed_raw (goal.at.returns-in-Refused c).After-place)
 
 pub returns-in-Done : goal.returns-in-Done
 returns-in-Done c =
     let a = c.args in
     let k = size (goal.at.returns-in-Done c).After-place c.in-Done.len c.in-Done.is in
     let keys = c.key_count-keys.ensures in
-    record-done a.count (made (goal.at.returns-in-Done c).After-place) (encode (raw (made (goal.at.returns-in-Done c).After-place))) a.out.now refl _ _ _ (told (goal.at.returns-in-Done c).After-place c.in-Done.len c.in-Done.is)
+    record_done a.count (made (goal.at.returns-in-Done c).After-place) (encode (raw (made (goal.at.returns-in-Done c).After-place))) a.out.now refl _ _ _ (told (goal.at.returns-in-Done c).After-place c.in-Done.len c.in-Done.is)
     (record {
       len = refl;
-      count-is = refl;
+      count_is = refl;
       body = omega (arith, keys, k);
       tone = refl;
       khin = refl;

@@ -2,7 +2,7 @@ use mathlib.Core.Path.{refl, sym}
 use mathlib.Core.List.{[]}
 use native.Mathlib.Nat.{add-zero}
 use lib.Seq.{paste-zero}
-use Rattle.ji.proofs.Writing.{stores-1}
+use Rattle.ji.proofs.Writing.{stores_1}
 use native.Mathlib.Omega.{arith}
 use Rattle.khiin_records.proofs.from_composed.put_khin.Goals as goal
 
@@ -17,4 +17,4 @@ returns-in-No c =
 pub returns-in-Yes : goal.returns-in-Yes
 returns-in-Yes c =
     let h = rw c.in-Yes.is at c.requires in
-    rw c.in-Yes.is (refl, stores-1 c.args.out.now c.args.at 48 (omega arith))
+    rw c.in-Yes.is (refl, stores_1 c.args.out.now c.args.at 48 (omega arith))

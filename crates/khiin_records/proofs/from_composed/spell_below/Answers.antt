@@ -1,14 +1,14 @@
 use mathlib.Core.Path.{sym, ap, ◌∙◌}
 use mathlib.Core.List.{[], ◌∷◌}
-use Rattle.ji.specs.Text.{replaceAll}
-use Rattle.khiin_records.proofs.Spelling.{below-absent}
+use Rattle.ji.specs.Text.{replace_all}
+use Rattle.khiin_records.proofs.Spelling.{below_absent}
 use Rattle.khiin_records.proofs.from_composed.spell_below.Goals as goal
 
 pub returns-then-contains : goal.returns-then-contains
 returns-then-contains c =
     c.replace_pair-then-contains-3.ensures
-    ∙ ap (replaceAll (79 ∷ 804 ∷ []) (69 ∷ 111 ∷ []))
-    (c.replace_pair-then-contains-2.ensures ∙ ap (replaceAll (111 ∷ 804 ∷ []) (101 ∷ 111 ∷ [])) (c.replace_pair-then-contains.ensures ∙ ap (replaceAll (85 ∷ 804 ∷ []) (69 ∷ 117 ∷ [])) c.replace_pair.ensures))
+    ∙ ap (replace_all (79 ∷ 804 ∷ []) (69 ∷ 111 ∷ []))
+    (c.replace_pair-then-contains-2.ensures ∙ ap (replace_all (111 ∷ 804 ∷ []) (101 ∷ 111 ∷ [])) (c.replace_pair-then-contains.ensures ∙ ap (replace_all (85 ∷ 804 ∷ []) (69 ∷ 117 ∷ [])) c.replace_pair.ensures))
 
 pub returns-else-contains : goal.returns-else-contains
-returns-else-contains c = let a = c.args in sym (below-absent a.s.now (sym c.contains.ensures ∙ c.if-contains.false))
+returns-else-contains c = let a = c.args in sym (below_absent a.s.now (sym c.contains.ensures ∙ c.if-contains.false))

@@ -4,10 +4,10 @@ use mathlib.Core.List.{List}
 use Prim.Native.Nat.{ℕ, ◌+◌, ◌-◌, ◌≤◌, ◌<◌}
 use lib.ListN.{length, drop, get_or, length-set}
 use Rattle.ji.specs.Text.{begins}
-use Rattle.ji.proofs.Bools.{and-left}
-use Rattle.ji.proofs.Writing.{written-length}
-use Rattle.khiin_records.specs.RawBytes.{takesBelow, dot, nasal, below, byteBefore, Walking}
-use Rattle.khiin_records.proofs.Walking.{begins-fits, before-some, below-some, walk-dot, walk-nasal, walk-below, walk-copy, walk-end}
+use Rattle.ji.proofs.Bools.{and_left}
+use Rattle.ji.proofs.Writing.{written_length}
+use Rattle.khiin_records.specs.RawBytes.{takes_below, dot, nasal, below, byte_before, Walking}
+use Rattle.khiin_records.proofs.Walking.{begins_fits, before_some, below_some, walk_dot, walk_nasal, walk_below, walk_copy, walk_end}
 use native.Mathlib.Omega.{arith}
 use Rattle.khiin_records.proofs.from_composed.spell_rest.Goals as goal
 use Rattle.khiin_records.proofs.from_composed.spell_rest.Goals.{Else-is_nasal, In-loop-i, Then-is_below}
@@ -30,33 +30,33 @@ module _ (c : In-loop-i) where
   more = c.loop-i-test.true
 
   -- there is room for k bytes, where as many are left to read
-  before-room : (k : ℕ) → n + k ≤ length s → n + k ≤ length c.args.out.now
-  before-room k f = omega (arith, c.requires.0)
+  before_room : (k : ℕ) → n + k ≤ length s → n + k ≤ length c.args.out.now
+  before_room k f = omega (arith, c.requires.0)
 
   room : (k : ℕ) → n + k ≤ length s → n + k ≤ length c.loop-i.out
-  room k f = omega (arith, before-room k f, written-length h.written)
+  room k f = omega (arith, before_room k f, written_length h.written)
 
 -- neither U+0358 nor U+207F stands here
 module _ (c : Else-is_nasal) where
   abbrev here : List ℕ
   here = drop c.loop-i.i c.args.s.now
 
-  no-dot-here : begins dot here ≡ false
-  no-dot-here = sym c.is_pair.ensures ∙ c.if-is_pair.false
+  no_dot_here : begins dot here ≡ false
+  no_dot_here = sym c.is_pair.ensures ∙ c.if-is_pair.false
 
-  no-nasal-here : begins nasal here ≡ false
-  no-nasal-here = sym c.is_nasal.ensures ∙ c.if-is_nasal.false
+  no_nasal_here : begins nasal here ≡ false
+  no_nasal_here = sym c.is_nasal.ensures ∙ c.if-is_nasal.false
 
 -- U+0324 stands here, behind a letter
 module _ (c : Then-is_below) where
-  is-below-here : (begins below (drop c.loop-i.i c.args.s.now) && takesBelow (byteBefore c.args.s.now c.loop-i.i)) ≡ true
-  is-below-here = sym c.is_below.ensures ∙ c.if-is_below.true
+  is_below_here : (begins below (drop c.loop-i.i c.args.s.now) && takes_below (byte_before c.args.s.now c.loop-i.i)) ≡ true
+  is_below_here = sym c.is_below.ensures ∙ c.if-is_below.true
 
-  behind-letter : 0 < c.loop-i.i
-  behind-letter = below-some c.args.s.now c.loop-i.i is-below-here
+  behind_letter : 0 < c.loop-i.i
+  behind_letter = below_some c.args.s.now c.loop-i.i is_below_here
 
-  letter-written : 0 < c.loop-i.n
-  letter-written = omega (arith, behind-letter, c.loop-i.invariant.1.longer)
+  letter_written : 0 < c.loop-i.n
+  letter_written = omega (arith, behind_letter, c.loop-i.invariant.1.longer)
 
 pub loop-i-init : goal.loop-i-init
 loop-i-init c = (omega arith, c.requires.1)
@@ -71,10 +71,10 @@ pub overflow_add-n : goal.overflow_add-n
 overflow_add-n c = omega (arith, room (goal.at.overflow_add-n c).In-loop-i 1 (omega arith))
 
 pub overflow_add-i : goal.overflow_add-i
-overflow_add-i c = omega (arith, begins-fits dot c.args.s.now c.loop-i.i c.loop-i.invariant.1.inside (sym c.is_pair.ensures ∙ c.if-is_pair.true))
+overflow_add-i c = omega (arith, begins_fits dot c.args.s.now c.loop-i.i c.loop-i.invariant.1.inside (sym c.is_pair.ensures ∙ c.if-is_pair.true))
 
 pub loop-i-preserved-then-is_pair : goal.loop-i-preserved-then-is_pair
-loop-i-preserved-then-is_pair c = (omega (arith, c.loop-i.invariant.0), walk-dot c.loop-i.invariant.1 c.loop-i-test.true (sym c.is_pair.ensures ∙ c.if-is_pair.true) (omega (arith, before-room (goal.at.loop-i-preserved-then-is_pair c).In-loop-i 1 (omega arith))))
+loop-i-preserved-then-is_pair c = (omega (arith, c.loop-i.invariant.0), walk_dot c.loop-i.invariant.1 c.loop-i-test.true (sym c.is_pair.ensures ∙ c.if-is_pair.true) (omega (arith, before_room (goal.at.loop-i-preserved-then-is_pair c).In-loop-i 1 (omega arith))))
 
 pub is_nasal-requires : goal.is_nasal-requires
 is_nasal-requires c = c.loop-i-test.true
@@ -86,31 +86,31 @@ pub overflow_add-out : goal.overflow_add-out
 overflow_add-out c = omega (arith, room (goal.at.overflow_add-out c).In-loop-i 1 (omega arith))
 
 pub bounds-out-n-then-is_nasal-2 : goal.bounds-out-n-then-is_nasal-2
-bounds-out-n-then-is_nasal-2 c = simp length-set (omega (arith, room (goal.at.bounds-out-n-then-is_nasal-2 c).In-loop-i 2 (let k = begins-fits nasal c.args.s.now c.loop-i.i c.loop-i.invariant.1.inside (sym c.is_nasal.ensures ∙ c.if-is_nasal.true) in omega arith)))
+bounds-out-n-then-is_nasal-2 c = simp length-set (omega (arith, room (goal.at.bounds-out-n-then-is_nasal-2 c).In-loop-i 2 (let k = begins_fits nasal c.args.s.now c.loop-i.i c.loop-i.invariant.1.inside (sym c.is_nasal.ensures ∙ c.if-is_nasal.true) in omega arith)))
 
 pub overflow_add-n-then-is_nasal : goal.overflow_add-n-then-is_nasal
-overflow_add-n-then-is_nasal c = omega (arith, room (goal.at.overflow_add-n-then-is_nasal c).In-loop-i 2 (let k = begins-fits nasal c.args.s.now c.loop-i.i c.loop-i.invariant.1.inside (sym c.is_nasal.ensures ∙ c.if-is_nasal.true) in omega arith))
+overflow_add-n-then-is_nasal c = omega (arith, room (goal.at.overflow_add-n-then-is_nasal c).In-loop-i 2 (let k = begins_fits nasal c.args.s.now c.loop-i.i c.loop-i.invariant.1.inside (sym c.is_nasal.ensures ∙ c.if-is_nasal.true) in omega arith))
 
 pub overflow_add-i-then-is_nasal : goal.overflow_add-i-then-is_nasal
-overflow_add-i-then-is_nasal c = omega (arith, begins-fits nasal c.args.s.now c.loop-i.i c.loop-i.invariant.1.inside (sym c.is_nasal.ensures ∙ c.if-is_nasal.true))
+overflow_add-i-then-is_nasal c = omega (arith, begins_fits nasal c.args.s.now c.loop-i.i c.loop-i.invariant.1.inside (sym c.is_nasal.ensures ∙ c.if-is_nasal.true))
 
 pub loop-i-preserved-then-is_nasal : goal.loop-i-preserved-then-is_nasal
 loop-i-preserved-then-is_nasal c = (
   omega (arith, c.loop-i.invariant.0),
-  walk-nasal c.loop-i.invariant.1 c.loop-i-test.true (sym c.is_pair.ensures ∙ c.if-is_pair.false) (sym c.is_nasal.ensures ∙ c.if-is_nasal.true) (omega (arith, before-room (goal.at.loop-i-preserved-then-is_nasal c).In-loop-i 2 (let k = begins-fits nasal c.args.s.now c.loop-i.i c.loop-i.invariant.1.inside (sym c.is_nasal.ensures ∙ c.if-is_nasal.true) in omega arith))),
+  walk_nasal c.loop-i.invariant.1 c.loop-i-test.true (sym c.is_pair.ensures ∙ c.if-is_pair.false) (sym c.is_nasal.ensures ∙ c.if-is_nasal.true) (omega (arith, before_room (goal.at.loop-i-preserved-then-is_nasal c).In-loop-i 2 (let k = begins_fits nasal c.args.s.now c.loop-i.i c.loop-i.invariant.1.inside (sym c.is_nasal.ensures ∙ c.if-is_nasal.true) in omega arith))),
 )
 
 pub is_below-requires : goal.is_below-requires
 is_below-requires c = c.loop-i-test.true
 
 pub overflow_sub-x : goal.overflow_sub-x
-overflow_sub-x c = behind-letter (goal.at.overflow_sub-x c).Then-is_below
+overflow_sub-x c = behind_letter (goal.at.overflow_sub-x c).Then-is_below
 
 pub bounds-s-i : goal.bounds-s-i
 bounds-s-i c = omega (arith, c.loop-i-test.true)
 
 pub overflow_sub-out : goal.overflow_sub-out
-overflow_sub-out c = letter-written (goal.at.overflow_sub-out c).Then-is_below
+overflow_sub-out c = letter_written (goal.at.overflow_sub-out c).Then-is_below
 
 pub bounds-out-n-then-is_below : goal.bounds-out-n-then-is_below
 bounds-out-n-then-is_below c = omega (arith, room (goal.at.bounds-out-n-then-is_below c).In-loop-i 1 (omega arith))
@@ -122,16 +122,16 @@ pub overflow_add-n-then-is_below : goal.overflow_add-n-then-is_below
 overflow_add-n-then-is_below c = omega (arith, room (goal.at.overflow_add-n-then-is_below c).In-loop-i 1 (omega arith))
 
 pub overflow_add-i-then-is_below : goal.overflow_add-i-then-is_below
-overflow_add-i-then-is_below c = omega (arith, begins-fits below c.args.s.now c.loop-i.i c.loop-i.invariant.1.inside (and-left _ _ (is-below-here (goal.at.overflow_add-i-then-is_below c).Then-is_below)))
+overflow_add-i-then-is_below c = omega (arith, begins_fits below c.args.s.now c.loop-i.i c.loop-i.invariant.1.inside (and_left _ _ (is_below_here (goal.at.overflow_add-i-then-is_below c).Then-is_below)))
 
 pub loop-i-smaller-then-is_below : goal.loop-i-smaller-then-is_below
 loop-i-smaller-then-is_below c = omega (arith, c.loop-i-test.true)
 
 pub loop-i-preserved-then-is_below : goal.loop-i-preserved-then-is_below
 loop-i-preserved-then-is_below c =
-    let x : get_or c.args.s.now (c.loop-i.i - 1) 0 ≡ byteBefore c.args.s.now c.loop-i.i = sym (before-some c.args.s.now c.loop-i.i (behind-letter (goal.at.loop-i-preserved-then-is_below c).Then-is_below)) in (
+    let x : get_or c.args.s.now (c.loop-i.i - 1) 0 ≡ byte_before c.args.s.now c.loop-i.i = sym (before_some c.args.s.now c.loop-i.i (behind_letter (goal.at.loop-i-preserved-then-is_below c).Then-is_below)) in (
       omega (arith, c.loop-i.invariant.0),
-      rw (c.first_of.ensures, c.second_of.ensures, x) (walk-below c.loop-i.invariant.1 c.loop-i-test.true (no-dot-here (goal.at.loop-i-preserved-then-is_below c).Else-is_nasal) (no-nasal-here (goal.at.loop-i-preserved-then-is_below c).Else-is_nasal) (is-below-here (goal.at.loop-i-preserved-then-is_below c).Then-is_below) (letter-written (goal.at.loop-i-preserved-then-is_below c).Then-is_below) (omega (arith, before-room (goal.at.loop-i-preserved-then-is_below c).In-loop-i 1 (omega arith)))),
+      rw (c.first_of.ensures, c.second_of.ensures, x) (walk_below c.loop-i.invariant.1 c.loop-i-test.true (no_dot_here (goal.at.loop-i-preserved-then-is_below c).Else-is_nasal) (no_nasal_here (goal.at.loop-i-preserved-then-is_below c).Else-is_nasal) (is_below_here (goal.at.loop-i-preserved-then-is_below c).Then-is_below) (letter_written (goal.at.loop-i-preserved-then-is_below c).Then-is_below) (omega (arith, before_room (goal.at.loop-i-preserved-then-is_below c).In-loop-i 1 (omega arith)))),
     )
 
 pub bounds-s-i-else-is_below : goal.bounds-s-i-else-is_below
@@ -152,11 +152,11 @@ loop-i-smaller c = omega (arith, c.loop-i-test.true)
 pub loop-i-preserved : goal.loop-i-preserved
 loop-i-preserved c = (
   omega (arith, c.loop-i.invariant.0),
-  walk-copy c.loop-i.invariant.1 c.loop-i-test.true (no-dot-here (goal.at.loop-i-preserved c).Else-is_nasal) (no-nasal-here (goal.at.loop-i-preserved c).Else-is_nasal) (sym c.is_below.ensures ∙ c.if-is_below.false) (omega (arith, before-room (goal.at.loop-i-preserved c).In-loop-i 1 (omega arith))),
+  walk_copy c.loop-i.invariant.1 c.loop-i-test.true (no_dot_here (goal.at.loop-i-preserved c).Else-is_nasal) (no_nasal_here (goal.at.loop-i-preserved c).Else-is_nasal) (sym c.is_below.ensures ∙ c.if-is_below.false) (omega (arith, before_room (goal.at.loop-i-preserved c).In-loop-i 1 (omega arith))),
 )
 
 pub returns : goal.returns
 returns c =
     let l = c.loop-i in
-    let e = walk-end l.invariant.1 c.loop-i-test.false in
+    let e = walk_end l.invariant.1 c.loop-i-test.false in
     (l.invariant.0, e.0, omega (arith, l.invariant.1.shorter, l.invariant.1.inside), e.1)

@@ -6,17 +6,17 @@ use native.Mathlib.Omega.{arith}
 use Rattle.ji.specs.Text.{last}
 use Rattle.khiin_records.proofs.from_raw.last_key.Goals as goal
 
-none-last : (s : List ℕ) → length s ≡ 0 → last s ≡ 0
+none_last : (s : List ℕ) → length s ≡ 0 → last s ≡ 0
 unfolding last
-none-last [] h = refl
-none-last (x ∷ s) h = absurd (omega (arith, h))
+none_last [] h = refl
+none_last (x ∷ s) h = absurd (omega (arith, h))
 
-last-is : (s : List ℕ) → get_or s (length s - 1) 0 ≡ last s
+last_is : (s : List ℕ) → get_or s (length s - 1) 0 ≡ last s
 unfolding last
-last-is s = refl
+last_is s = refl
 
 pub returns-then-n-eq0 : goal.returns-then-n-eq0
-returns-then-n-eq0 c = sym (none-last c.args.s.now c.if-n-eq0.true)
+returns-then-n-eq0 c = sym (none_last c.args.s.now c.if-n-eq0.true)
 
 pub returns : goal.returns
-returns c = last-is c.args.s.now
+returns c = last_is c.args.s.now

@@ -1,9 +1,9 @@
 use Rattle.std.proofs.Common.{get_or}
-use Rattle.replay.specs.Record.{headerOf}
+use Rattle.replay.specs.Record.{header_of}
 use Rattle.replay.proofs.record.read.Goals as goal
 
 pub returns : goal.returns
-unfolding headerOf
+unfolding header_of
 returns c =
     let s = c.args.s.now in
     λ i. record {

@@ -1,12 +1,12 @@
 use mathlib.Core.Path.{◌≡◌, refl, sym, ap}
 use Prim.Native.Nat.{ℕ, zero, suc}
 use Rattle.ji.specs.declared.tone.Tone.TheVariants.{None}
-use Rattle.robinflint.specs.Arguments.{toneOf}
+use Rattle.robinflint.specs.Arguments.{tone_of}
 use borrow.Author.Rules.{rules}
 use Rattle.robinflint.proofs.arguments.tone_of.Goals as goal
 
-other : (n : ℕ) → (n ≡ 1 → ⊥) → (n ≡ 2 → ⊥) → (n ≡ 3 → ⊥) → (n ≡ 4 → ⊥) → (n ≡ 5 → ⊥) → (n ≡ 6 → ⊥) → (n ≡ 7 → ⊥) → (n ≡ 8 → ⊥) → (n ≡ 9 → ⊥) → None ≡ toneOf n
-unfolding toneOf
+other : (n : ℕ) → (n ≡ 1 → ⊥) → (n ≡ 2 → ⊥) → (n ≡ 3 → ⊥) → (n ≡ 4 → ⊥) → (n ≡ 5 → ⊥) → (n ≡ 6 → ⊥) → (n ≡ 7 → ⊥) → (n ≡ 8 → ⊥) → (n ≡ 9 → ⊥) → None ≡ tone_of n
+unfolding tone_of
 other zero a b c d e f g h i = refl
 other (suc zero) a b c d e f g h i = absurd (a refl)
 other (suc (suc zero)) a b c d e f g h i = absurd (b refl)
@@ -20,40 +20,40 @@ other (suc (suc (suc (suc (suc (suc (suc (suc (suc zero))))))))) a b c d e f g h
 other (suc (suc (suc (suc (suc (suc (suc (suc (suc (suc n)))))))))) a b c d e f g h i = refl
 
 pub returns-in-1 : goal.returns-in-1
-unfolding toneOf
-returns-in-1 c = ap toneOf (sym c.in-1.is)
+unfolding tone_of
+returns-in-1 c = ap tone_of (sym c.in-1.is)
 
 pub returns-in-2 : goal.returns-in-2
-unfolding toneOf
-returns-in-2 c = ap toneOf (sym c.in-2.is)
+unfolding tone_of
+returns-in-2 c = ap tone_of (sym c.in-2.is)
 
 pub returns-in-3 : goal.returns-in-3
-unfolding toneOf
-returns-in-3 c = ap toneOf (sym c.in-3.is)
+unfolding tone_of
+returns-in-3 c = ap tone_of (sym c.in-3.is)
 
 pub returns-in-4 : goal.returns-in-4
-unfolding toneOf
-returns-in-4 c = ap toneOf (sym c.in-4.is)
+unfolding tone_of
+returns-in-4 c = ap tone_of (sym c.in-4.is)
 
 pub returns-in-5 : goal.returns-in-5
-unfolding toneOf
-returns-in-5 c = ap toneOf (sym c.in-5.is)
+unfolding tone_of
+returns-in-5 c = ap tone_of (sym c.in-5.is)
 
 pub returns-in-6 : goal.returns-in-6
-unfolding toneOf
-returns-in-6 c = ap toneOf (sym c.in-6.is)
+unfolding tone_of
+returns-in-6 c = ap tone_of (sym c.in-6.is)
 
 pub returns-in-7 : goal.returns-in-7
-unfolding toneOf
-returns-in-7 c = ap toneOf (sym c.in-7.is)
+unfolding tone_of
+returns-in-7 c = ap tone_of (sym c.in-7.is)
 
 pub returns-in-8 : goal.returns-in-8
-unfolding toneOf
-returns-in-8 c = ap toneOf (sym c.in-8.is)
+unfolding tone_of
+returns-in-8 c = ap tone_of (sym c.in-8.is)
 
 pub returns-in-9 : goal.returns-in-9
-unfolding toneOf
-returns-in-9 c = ap toneOf (sym c.in-9.is)
+unfolding tone_of
+returns-in-9 c = ap tone_of (sym c.in-9.is)
 
 pub returns-in_default : goal.returns-in_default
 returns-in_default c = other c.args.number (search rules) (search rules) (search rules) (search rules) (search rules) (search rules) (search rules) (search rules) (search rules)

@@ -2,9 +2,9 @@
 use mathlib.Core.Path.{◌≡◌, refl, sym, ap, ◌∙◌}
 use Prim.Native.Nat.{ℕ, ◌+◌, ◌-◌}
 use lib.ListN.{drop}
-use Rattle.ji.proofs.Bools.{or-yes, or-no}
-use Rattle.ji.specs.Lomaji.Dot.{dotIn}
-use Rattle.ji.proofs.lomaji.dot.Laws.{dot-at, dot-over}
+use Rattle.ji.proofs.Bools.{or_yes, or_no}
+use Rattle.ji.specs.Lomaji.Dot.{dot_in}
+use Rattle.ji.proofs.lomaji.dot.Laws.{dot_at, dot_over}
 use native.Mathlib.Omega.{arith}
 use Rattle.ji.proofs.lomaji.dot.holds_dot.Goals as goal
 
@@ -14,13 +14,13 @@ loop-i-init c = (omega arith, refl)
 pub returns-then-is_dot : goal.returns-then-is_dot
 returns-then-is_dot c =
     let s = c.args.text.now in
-    sym (c.loop-i.invariant.1 ∙ dot-at s c.loop-i.i (omega arith) (omega arith) ∙ or-yes _ _ (sym c.is_dot.ensures ∙ c.if-is_dot.true))
+    sym (c.loop-i.invariant.1 ∙ dot_at s c.loop-i.i (omega arith) (omega arith) ∙ or_yes _ _ (sym c.is_dot.ensures ∙ c.if-is_dot.true))
 
 pub loop-i-preserved : goal.loop-i-preserved
 loop-i-preserved c =
     let s = c.args.text.now in
-    (omega arith, c.loop-i.invariant.1 ∙ dot-at s c.loop-i.i (omega arith) (omega arith) ∙ or-no _ _ (sym c.is_dot.ensures ∙ c.if-is_dot.false) ∙ ap (λ (m : ℕ). dotIn (drop m s)) (let z : c.loop-i.i ≡ c.loop-i.i + 1 - 1 = omega arith in z))
+    (omega arith, c.loop-i.invariant.1 ∙ dot_at s c.loop-i.i (omega arith) (omega arith) ∙ or_no _ _ (sym c.is_dot.ensures ∙ c.if-is_dot.false) ∙ ap (λ (m : ℕ). dot_in (drop m s)) (let z : c.loop-i.i ≡ c.loop-i.i + 1 - 1 = omega arith in z))
 
 pub returns : goal.returns
 returns c =
-    sym (c.loop-i.invariant.1 ∙ dot-over c.args.text.now c.loop-i.i (omega arith) (omega arith))
+    sym (c.loop-i.invariant.1 ∙ dot_over c.args.text.now c.loop-i.i (omega arith) (omega arith))

@@ -2,11 +2,11 @@
 use mathlib.Core.Path.{◌≡◌}
 use Prim.Native.Nat.{◌-◌, ◌<◌}
 use lib.ListN.{length, drop}
-use Rattle.ji.specs.Lomaji.Dot.{dotIn}
+use Rattle.ji.specs.Lomaji.Dot.{dot_in}
 use Rattle.ji.proofs.lomaji.dot.holds_dot.Given as goal
 
 abbrev pub invariant-loop-i : goal.invariant-loop-i
-invariant-loop-i l = (0 < l.i) × (dotIn l.text ≡ dotIn (drop (l.i - 1) l.text))
+invariant-loop-i l = (0 < l.i) × (dot_in l.text ≡ dot_in (drop (l.i - 1) l.text))
 
 abbrev pub decreases-loop-i : goal.decreases-loop-i
 decreases-loop-i l = length l.text - l.i

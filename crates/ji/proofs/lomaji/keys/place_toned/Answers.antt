@@ -4,9 +4,9 @@ use Prim.Native.Nat.{ℕ}
 use native.Mathlib.Nat.{sub-zero}
 use lib.ListN.{take, length-set}
 use Rattle.ji.specs.Reply.{placed}
-use Rattle.ji.specs.Lomaji.Keys.{keyText}
+use Rattle.ji.specs.Lomaji.Keys.{key_text}
 use Rattle.ji.specs.declared.lomaji.keys.ToneKey.{ToneKey}
-use Rattle.ji.proofs.Writing.{stored-key}
+use Rattle.ji.proofs.Writing.{stored_key}
 use native.Mathlib.Omega.{arith}
 use Rattle.ji.proofs.lomaji.keys.place_toned.Goals as goal
 
@@ -20,11 +20,11 @@ returns-in-Nothing c =
     let bytes = a.bytes.now in
     c.place_bytes.ensures
     ∙ ap (λ (l : List ℕ). placed 0 l a.out.now)
-    (ap (λ (m : ℕ). take m bytes) (sub-zero a.n) ∙ sym (append-nil (take a.n bytes)) ∙ ap (λ (k : ToneKey). take a.n bytes ++ keyText k) (sym c.in-Nothing.is))
+    (ap (λ (m : ℕ). take m bytes) (sub-zero a.n) ∙ sym (append-nil (take a.n bytes)) ∙ ap (λ (k : ToneKey). take a.n bytes ++ key_text k) (sym c.in-Nothing.is))
 
 pub returns-in-Key : goal.returns-in-Key
 returns-in-Key c =
     let bytes = c.args.bytes.now in
     c.place_bytes-in-Key.ensures
     ∙ ap (λ (l : List ℕ). placed 0 l c.args.out.now)
-    (stored-key bytes c.args.n c.in-Key.k c.requires ∙ ap (λ (x : ToneKey). take c.args.n bytes ++ keyText x) (sym c.in-Key.is))
+    (stored_key bytes c.args.n c.in-Key.k c.requires ∙ ap (λ (x : ToneKey). take c.args.n bytes ++ key_text x) (sym c.in-Key.is))

@@ -5,19 +5,19 @@ use Prim.Native.Nat.{ℕ, ◌+◌, ◌≤◌}
 use native.Mathlib.Nat.{add-zero}
 use lib.ListN.{length}
 use lib.Seq.{paste-zero}
-use Rattle.ji.specs.Lomaji.Keys.{keyText}
+use Rattle.ji.specs.Lomaji.Keys.{key_text}
 use Rattle.ji.specs.declared.lomaji.keys.ToneKey.{ToneKey}
-use Rattle.ji.proofs.Writing.{stores-1}
+use Rattle.ji.proofs.Writing.{stores_1}
 use native.Mathlib.Omega.{arith}
 use Rattle.ji.proofs.lomaji.keys.put_key.Goals as goal
 
 -- there is room for the key as it was matched
-fits-told : (out : List ℕ) (at : ℕ) (x told : ToneKey) → x ≡ told → at + length (keyText x) ≤ length out → at + length (keyText told) ≤ length out
-fits-told out at x told is h = rw is at h
+fits_told : (out : List ℕ) (at : ℕ) (x told : ToneKey) → x ≡ told → at + length (key_text x) ≤ length out → at + length (key_text told) ≤ length out
+fits_told out at x told is h = rw is at h
 
 pub bounds-out-at : goal.bounds-out-at
 bounds-out-at c =
-    let h = fits-told c.args.out.now c.args.at _ _ c.in-Key.is c.requires in
+    let h = fits_told c.args.out.now c.args.at _ _ c.in-Key.is c.requires in
     omega arith
 
 pub returns-in-Nothing : goal.returns-in-Nothing
@@ -27,5 +27,5 @@ returns-in-Nothing c =
 
 pub returns-in-Key : goal.returns-in-Key
 returns-in-Key c =
-    let h = fits-told c.args.out.now c.args.at _ _ c.in-Key.is c.requires in
-    rw c.in-Key.is (refl, stores-1 c.args.out.now c.args.at c.in-Key.k (omega arith))
+    let h = fits_told c.args.out.now c.args.at _ _ c.in-Key.is c.requires in
+    rw c.in-Key.is (refl, stores_1 c.args.out.now c.args.at c.in-Key.k (omega arith))

@@ -7,16 +7,16 @@ use Rattle.ucd.specs.Unicode16.{unicode16}
 use Rattle.ji.specs.Utf8.{decode}
 use Rattle.ji.specs.Written.{Written}
 use Rattle.ji.specs.Reading.{Reading}
-use Rattle.ji.specs.Reply.{good, checkPoints}
-use Rattle.ji.specs.Lomaji.Keys.{rulesOf, respell, keyText}
+use Rattle.ji.specs.Reply.{good, check_points}
+use Rattle.ji.specs.Lomaji.Keys.{rules_of, respell, key_text}
 use Rattle.ji.specs.declared.unicode.CharLen.{CharLen}
 use Rattle.ji.specs.declared.unicode.Decoded.TheVariants.{Points}
-use Rattle.ji.proofs.Writing.{written-length, written-run}
+use Rattle.ji.proofs.Writing.{written_length, written_run}
 use Rattle.ji.proofs.Readings.{front, told}
 use Rattle.ji.proofs.utf8.OneToOne.{fewer}
-use Rattle.ji.proofs.unicode.Laws.{spread-plain}
-use Rattle.ji.proofs.unicode.Checked.{bytes-good, points-passed, good-same, good-not-bad}
-use Rattle.ji.proofs.lomaji.keys.Laws.{respell-length, key-length}
+use Rattle.ji.proofs.unicode.Laws.{spread_plain}
+use Rattle.ji.proofs.unicode.Checked.{bytes_good, points_passed, good_same, good_not_bad}
+use Rattle.ji.proofs.lomaji.keys.Laws.{respell_length, key_length}
 use native.Mathlib.Omega.{arith}
 use Rattle.ji.proofs.lomaji.keys.respell_bytes.Goals as goal
 use Rattle.ji.proofs.lomaji.keys.respell_bytes.Goals.{After-read_points}
@@ -36,47 +36,47 @@ module _ (c : After-read_points) where
     abbrev u : List ℕ
     u = (told unicode16 bytes c.args.points.now after false is reading).0
 
-    passes : checkPoints unicode16 (decode bytes) ≡ good u
+    passes : check_points unicode16 (decode bytes) ≡ good u
     passes = (told unicode16 bytes c.args.points.now after false is reading).1
 
     read : Written c.args.points.now after len.0 u
-    read = subst (λ (l : List ℕ). Written c.args.points.now after len.0 l) (spread-plain unicode16 u) (told unicode16 bytes c.args.points.now after false is reading).2
+    read = subst (λ (l : List ℕ). Written c.args.points.now after len.0 l) (spread_plain unicode16 u) (told unicode16 bytes c.args.points.now after false is reading).2
 
     few : length u ≤ length bytes
-    few = omega (arith, fewer u, ap length (points-passed bytes u passes).written)
+    few = omega (arith, fewer u, ap length (points_passed bytes u passes).written)
 
     -- there is room for the letters, and for the key behind them
-    letters-few : length (respell (rulesOf c.args.form) (take (len.0 - 0) after)) < length c.args.letters.now
-    letters-few = rw (front read) (omega (arith, respell-length c.args.form u, few, c.requires.1))
+    letters_few : length (respell (rules_of c.args.form) (take (len.0 - 0) after)) < length c.args.letters.now
+    letters_few = rw (front read) (omega (arith, respell_length c.args.form u, few, c.requires.1))
 
-    key-room : (m : ℕ) (letters : List ℕ) → Written c.args.letters.now letters m (respell (rulesOf c.args.form) (take (len.0 - 0) after)) → m + length (keyText c.args.key) ≤ length c.args.letters.now
-    key-room m letters w = omega (arith, w.size, letters-few, key-length c.args.key)
+    key_room : (m : ℕ) (letters : List ℕ) → Written c.args.letters.now letters m (respell (rules_of c.args.form) (take (len.0 - 0) after)) → m + length (key_text c.args.key) ≤ length c.args.letters.now
+    key_room m letters w = omega (arith, w.size, letters_few, key_length c.args.key)
 
 pub slice_bounds-respell-end : goal.slice_bounds-respell-end
 slice_bounds-respell-end c =
     let w = read (goal.at.slice_bounds-respell-end c).After-read_points c.in-Points.len c.in-Points.is in
-    omega (arith, w.fits, written-length w)
+    omega (arith, w.fits, written_length w)
 
 pub respell-m-requires : goal.respell-m-requires
 respell-m-requires c =
-    let h = letters-few (goal.at.respell-m-requires c).After-read_points c.in-Points.len c.in-Points.is in
+    let h = letters_few (goal.at.respell-m-requires c).After-read_points c.in-Points.len c.in-Points.is in
     omega (arith, h)
 
 pub put_key-requires : goal.put_key-requires
 put_key-requires c =
     let v = c.respell-m.ensures.1 in
-    rw (written-length v) (key-room (goal.at.put_key-requires c).After-read_points c.in-Points.len c.in-Points.is _ _ v)
+    rw (written_length v) (key_room (goal.at.put_key-requires c).After-read_points c.in-Points.len c.in-Points.is _ _ v)
 
 pub returns-in-Refused : goal.returns-in-Refused
 returns-in-Refused c =
     λ rest inside is.
-    absurd (good-not-bad (sym (bytes-good _ rest inside is) ∙ (told unicode16 _ _ _ false c.in-Refused.is (reading (goal.at.returns-in-Refused c).After-read_points)).0))
+    absurd (good_not_bad (sym (bytes_good _ rest inside is) ∙ (told unicode16 _ _ _ false c.in-Refused.is (reading (goal.at.returns-in-Refused c).After-read_points)).0))
 
 pub returns-in-Points : goal.returns-in-Points
 returns-in-Points c =
     λ rest inside is.
     let v = c.respell-m.ensures.1 in
-    let same : take (c.in-Points.len.0 - 0) c.read_points.new.out ≡ rest = front (read (goal.at.returns-in-Points c).After-read_points c.in-Points.len c.in-Points.is) ∙ good-same (sym (passes (goal.at.returns-in-Points c).After-read_points c.in-Points.len c.in-Points.is) ∙ bytes-good _ rest inside is) in
+    let same : take (c.in-Points.len.0 - 0) c.read_points.new.out ≡ rest = front (read (goal.at.returns-in-Points c).After-read_points c.in-Points.len c.in-Points.is) ∙ good_same (sym (passes (goal.at.returns-in-Points c).After-read_points c.in-Points.len c.in-Points.is) ∙ bytes_good _ rest inside is) in
     let f = c.args.form in
-    let w = subst (λ (s : List ℕ). Written c.args.letters.now c.respell-m.new.out c.respell-m.result (respell (rulesOf f) s)) same v in
-    rw (c.put_key.ensures.0, c.put_key.ensures.1) (written-run w (keyText c.args.key) (key-room (goal.at.returns-in-Points c).After-read_points c.in-Points.len c.in-Points.is _ _ v))
+    let w = subst (λ (s : List ℕ). Written c.args.letters.now c.respell-m.new.out c.respell-m.result (respell (rules_of f) s)) same v in
+    rw (c.put_key.ensures.0, c.put_key.ensures.1) (written_run w (key_text c.args.key) (key_room (goal.at.returns-in-Points c).After-read_points c.in-Points.len c.in-Points.is _ _ v))

@@ -1,28 +1,28 @@
-use Rattle.ucd.specs.Table.{same, inRanges, mappingIn, member, decomposition}
+use Rattle.ucd.specs.Table.{same, in_ranges, mapping_in, member, decomposition}
 use Rattle.ucd.specs.Unicode16.{unicode16, ranges16, mappings16}
-use Rattle.ji.specs.Lomaji.Strip.{isToneMark}
-use Rattle.ji.proofs.lomaji.quick.Laws.{isLetter, letter_at}
+use Rattle.ji.specs.Lomaji.Strip.{is_tone_mark}
+use Rattle.ji.proofs.lomaji.quick.Laws.{is_letter, letter_at}
 use mathlib.Core.Path.{refl}
 use Rattle.ji.proofs.lomaji.quick.macron_letter.Goals as goal
 
 pub returns-in-257 : goal.returns-in-257
-unfolding isLetter isToneMark same inRanges mappingIn member decomposition unicode16 ranges16 mappings16
+unfolding is_letter is_tone_mark same in_ranges mapping_in member decomposition unicode16 ranges16 mappings16
 returns-in-257 c = letter_at 0x0101 0x00610304 tt c.args.c c.in-257.is
 
 pub returns-in-275 : goal.returns-in-275
-unfolding isLetter isToneMark same inRanges mappingIn member decomposition unicode16 ranges16 mappings16
+unfolding is_letter is_tone_mark same in_ranges mapping_in member decomposition unicode16 ranges16 mappings16
 returns-in-275 c = letter_at 0x0113 0x00650304 tt c.args.c c.in-275.is
 
 pub returns-in-299 : goal.returns-in-299
-unfolding isLetter isToneMark same inRanges mappingIn member decomposition unicode16 ranges16 mappings16
+unfolding is_letter is_tone_mark same in_ranges mapping_in member decomposition unicode16 ranges16 mappings16
 returns-in-299 c = letter_at 0x012B 0x00690304 tt c.args.c c.in-299.is
 
 pub returns-in-333 : goal.returns-in-333
-unfolding isLetter isToneMark same inRanges mappingIn member decomposition unicode16 ranges16 mappings16
+unfolding is_letter is_tone_mark same in_ranges mapping_in member decomposition unicode16 ranges16 mappings16
 returns-in-333 c = letter_at 0x014D 0x006F0304 tt c.args.c c.in-333.is
 
 pub returns-in-363 : goal.returns-in-363
-unfolding isLetter isToneMark same inRanges mappingIn member decomposition unicode16 ranges16 mappings16
+unfolding is_letter is_tone_mark same in_ranges mapping_in member decomposition unicode16 ranges16 mappings16
 returns-in-363 c = letter_at 0x016B 0x00750304 tt c.args.c c.in-363.is
 
 pub returns-in_default : goal.returns-in_default

@@ -1,6 +1,6 @@
 use mathlib.Core.Path.{sym}
-use Rattle.ucd.proofs.Unicode16.{full-itself, full-one, full-two}
-use Rattle.ji.proofs.lomaji.quick.Laws.{further-both, further-same, letter-full}
+use Rattle.ucd.proofs.Unicode16.{full_itself, full_one, full_two}
+use Rattle.ji.proofs.lomaji.quick.Laws.{further_both, further_same, letter_full}
 use Rattle.ji.proofs.unicode.Laws.{told}
 use native.Mathlib.Omega.{arith}
 use Rattle.ji.proofs.lomaji.quick.push_decomposed.Goals as goal
@@ -16,23 +16,23 @@ returns-then-both-ne0 c =
     let w = c.push in
     let v = c.push_ascii-q in
     let l = c.letter-both in
-    (omega (arith, v.ensures.0, w.ensures.0), further-same (letter-full _ l.result l.ensures c.if-both-ne0.true) (further-both v.ensures.1 w.ensures.1))
+    (omega (arith, v.ensures.0, w.ensures.0), further_same (letter_full _ l.result l.ensures c.if-both-ne0.true) (further_both v.ensures.1 w.ensures.1))
 
 pub returns-in-Itself : goal.returns-in-Itself
 returns-in-Itself c =
     let w = c.push-in-Itself in
     let a = c.args in
-    (omega (arith, w.ensures.0), further-same (sym (full-itself a.c (told a.c c.decomposition.ensures c.in-Itself.is))) w.ensures.1)
+    (omega (arith, w.ensures.0), further_same (sym (full_itself a.c (told a.c c.decomposition.ensures c.in-Itself.is))) w.ensures.1)
 
 pub returns-in-One : goal.returns-in-One
 returns-in-One c =
     let w = c.push-in-One in
     let a = c.args in
-    (omega (arith, w.ensures.0), further-same (sym (full-one a.c _ (told a.c c.decomposition.ensures c.in-One.is))) w.ensures.1)
+    (omega (arith, w.ensures.0), further_same (sym (full_one a.c _ (told a.c c.decomposition.ensures c.in-One.is))) w.ensures.1)
 
 pub returns-in-Two : goal.returns-in-Two
 returns-in-Two c =
     let w = c.push-in-Two in
     let v = c.push_first-q in
     let a = c.args in
-    (omega (arith, v.ensures.0, w.ensures.0), further-same (sym (full-two a.c _ _ (told a.c c.decomposition.ensures c.in-Two.is))) (further-both v.ensures.1 w.ensures.1))
+    (omega (arith, v.ensures.0, w.ensures.0), further_same (sym (full_two a.c _ _ (told a.c c.decomposition.ensures c.in-Two.is))) (further_both v.ensures.1 w.ensures.1))

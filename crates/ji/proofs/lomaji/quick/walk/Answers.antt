@@ -7,46 +7,46 @@ use lib.ListN.{length, drop, get_or}
 use Rattle.ucd.specs.Table.{member}
 use Rattle.ucd.specs.Full.{full}
 use Rattle.ucd.specs.Unicode16.{unicode16}
-use Rattle.ucd.proofs.Unicode16.{member-below}
+use Rattle.ucd.proofs.Unicode16.{member_below}
 use Rattle.ji.specs.Utf8.{ReadOf}
 use Rattle.ji.specs.Lomaji.Quick.{Further}
 use Rattle.ji.specs.declared.lomaji.quick.Progress.{Progress}
-use Rattle.ji.proofs.Writing.{written-length}
-use Rattle.ji.proofs.utf8.Laws.{read-one}
-use Rattle.ji.proofs.unicode.Reader.{width-within}
-use Rattle.ji.proofs.unicode.Ascii.{ascii-member}
-use Rattle.ji.proofs.lomaji.quick.Laws.{further-same, ascii-full, Walking, walking-start, walking-more, walking-end}
+use Rattle.ji.proofs.Writing.{written_length}
+use Rattle.ji.proofs.utf8.Laws.{read_one}
+use Rattle.ji.proofs.unicode.Reader.{width_within}
+use Rattle.ji.proofs.unicode.Ascii.{ascii_member}
+use Rattle.ji.proofs.lomaji.quick.Laws.{further_same, ascii_full, Walking, walking_start, walking_more, walking_end}
 use native.Mathlib.Omega.{arith}
 use Rattle.ji.proofs.lomaji.quick.walk.Goals as goal
 
 module _ (s before out : List ℕ) (i : ℕ) (p : Progress) (r : Walking s before out i p) (h : i < length s) where
-  out-length : length out ≡ length before
-  out-length = written-length r.stripping.written
+  out_length : length out ≡ length before
+  out_length = written_length r.stripping.written
 
   -- a turn over an ASCII character
-  ascii-again : get_or s i 0 < 0x80 → (q : Progress) (out' : List ℕ) → q.n ≤ p.n + 1 → Further p q out out' (get_or s i 0 ∷ []) → Walking s before out' (i + 1) q
-  ascii-again k q out' few step =
-      walking-more s before out i p r h 1 (get_or s i 0) (read-one s i h (omega arith)) (omega arith) (ascii-member (get_or s i 0) k) q out'
-      (further-same (sym (ascii-full (get_or s i 0) k)) step) (omega (arith, r.room))
+  ascii_again : get_or s i 0 < 0x80 → (q : Progress) (out' : List ℕ) → q.n ≤ p.n + 1 → Further p q out out' (get_or s i 0 ∷ []) → Walking s before out' (i + 1) q
+  ascii_again k q out' few step =
+      walking_more s before out i p r h 1 (get_or s i 0) (read_one s i h (omega arith)) (omega arith) (ascii_member (get_or s i 0) k) q out'
+      (further_same (sym (ascii_full (get_or s i 0) k)) step) (omega (arith, r.room))
 
   -- a turn over a sequence of width w and code point x
   module _ (w x : ℕ) (read : ReadOf (drop i s) w x) (some : w ≡ 0 → ⊥) where
     ends : i + w ≤ length s
-    ends = omega (arith, read.wide, width-within s i h)
+    ends = omega (arith, read.wide, width_within s i h)
 
     again : true ≡ member unicode16 x → p.n + (length s - i) + 9 ≤ length out → (q : Progress) (out' : List ℕ) → q.n ≤ p.n + 9 → Further p q out out' (full unicode16 (x ∷ [])) → Walking s before out' (i + w) q
-    again m fit q out' few step = walking-more s before out i p r h w x read (omega (arith, some)) (sym m) q out' step (omega (arith, out-length, ends))
+    again m fit q out' few step = walking_more s before out i p r h w x read (omega (arith, some)) (sym m) q out' step (omega (arith, out_length, ends))
 
 pub loop-i-init : goal.loop-i-init
-loop-i-init c = walking-start c.args.s.now c.args.out.now c.requires.0
+loop-i-init c = walking_start c.args.s.now c.args.out.now c.requires.0
 
 pub push_ascii-p-requires : goal.push_ascii-p-requires
-push_ascii-p-requires c = (c.if-a-lt128.true, omega (arith, c.loop-i.invariant.room, out-length c.args.s.now c.args.out.now c.loop-i.out c.loop-i.i c.loop-i.p c.loop-i.invariant c.loop-i-test.true))
+push_ascii-p-requires c = (c.if-a-lt128.true, omega (arith, c.loop-i.invariant.room, out_length c.args.s.now c.args.out.now c.loop-i.out c.loop-i.i c.loop-i.p c.loop-i.invariant c.loop-i-test.true))
 
 pub loop-i-preserved-then-a-lt128 : goal.loop-i-preserved-then-a-lt128
 loop-i-preserved-then-a-lt128 c =
     let w = c.push_ascii-p in
-    ascii-again c.args.s.now c.args.out.now c.loop-i.out c.loop-i.i c.loop-i.p c.loop-i.invariant c.loop-i-test.true c.if-a-lt128.true w.result _ w.ensures.0 w.ensures.1
+    ascii_again c.args.s.now c.args.out.now c.loop-i.out c.loop-i.i c.loop-i.p c.loop-i.invariant c.loop-i-test.true c.if-a-lt128.true w.result _ w.ensures.0 w.ensures.1
 
 pub overflow_add-p : goal.overflow_add-p
 overflow_add-p c = omega (arith, c.loop-i.invariant.room, c.requires.1)
@@ -55,7 +55,7 @@ pub overflow_add-p-else-a-lt128 : goal.overflow_add-p-else-a-lt128
 overflow_add-p-else-a-lt128 c = omega (arith, c.loop-i.invariant.room, c.requires.1)
 
 pub overflow_cast-point : goal.overflow_cast-point
-overflow_cast-point c = let low = member-below _ (subst T (sym c.if-is_member.true ∙ c.is_member.ensures) tt) in omega arith
+overflow_cast-point c = let low = member_below _ (subst T (sym c.if-is_member.true ∙ c.is_member.ensures) tt) in omega arith
 
 pub push_point-p-requires : goal.push_point-p-requires
 push_point-p-requires c = omega (arith, c.if-out-p.false)
@@ -72,4 +72,4 @@ loop-i-preserved c =
     again c.args.s.now c.args.out.now c.loop-i.out c.loop-i.i c.loop-i.p c.loop-i.invariant c.loop-i-test.true _ _ c.read-sequence.ensures c.if-width-eq0.false (sym c.if-is_member.true ∙ c.is_member.ensures) c.if-out-p.false w.result _ w.ensures.0 w.ensures.1
 
 pub returns-then-p : goal.returns-then-p
-returns-then-p c = walking-end c.args.s.now c.args.out.now c.loop-i.out c.loop-i.i c.loop-i.p c.loop-i.invariant c.loop-i-test.false c.if-p.true c.mark_tone.result c.mark_tone.ensures
+returns-then-p c = walking_end c.args.s.now c.args.out.now c.loop-i.out c.loop-i.i c.loop-i.p c.loop-i.invariant c.loop-i-test.false c.if-p.true c.mark_tone.result c.mark_tone.ensures

@@ -1,11 +1,11 @@
 use mathlib.Core.Logic.{inl}
 use Prim.Native.Nat.{◌+◌}
-use Rattle.ji.proofs.lomaji.single.Laws.{ascii-at, kept-start, kept-more}
+use Rattle.ji.proofs.lomaji.single.Laws.{ascii_at, kept_start, kept_more}
 use native.Mathlib.Omega.{arith}
 use Rattle.ji.proofs.lomaji.single.ascii_to.Goals as goal
 
 pub loop-i-init : goal.loop-i-init
-loop-i-init c = (omega arith, c.requires, kept-start c.args.s.now c.args.from)
+loop-i-init c = (omega arith, c.requires, kept_start c.args.s.now c.args.from)
 
 pub bounds-s-i : goal.bounds-s-i
 bounds-s-i c = c.loop-i-test.true
@@ -24,7 +24,7 @@ loop-i-preserved c =
     let l = c.loop-i in
     let a = c.args in
     let low = c.if-s-i-gt127.false in
-    (omega (arith, l.invariant.0), omega (arith, c.loop-i-test.true), kept-more a.s.now a.from l.i (l.i + 1) _ l.invariant.2 (inl (omega (arith, low))) (ascii-at a.s.now l.i c.loop-i-test.true (omega (arith, low))))
+    (omega (arith, l.invariant.0), omega (arith, c.loop-i-test.true), kept_more a.s.now a.from l.i (l.i + 1) _ l.invariant.2 (inl (omega (arith, low))) (ascii_at a.s.now l.i c.loop-i-test.true (omega (arith, low))))
 
 pub returns : goal.returns
 returns c = c.loop-i.invariant

@@ -1,7 +1,7 @@
 use mathlib.Core.Path.{refl}
 use mathlib.Core.Logic.{inl, inr}
 use Prim.Native.Nat.{◌+◌}
-use Rattle.ji.proofs.lomaji.single.Laws.{kept-more, kept-on}
+use Rattle.ji.proofs.lomaji.single.Laws.{kept_more, kept_on}
 use native.Mathlib.Omega.{arith}
 use Rattle.ji.proofs.lomaji.single.kept_to.Goals as goal
 
@@ -25,7 +25,7 @@ loop-i-preserved-then-is_dot c =
     let a = c.args in
     let e = c.is_dot.ensures c.if-is_dot.true in
     let r = c.ascii_to-i-then-is_dot.ensures in
-    (r.1, kept-on a.s.now a.from (c.loop-i.i + 2) c.ascii_to-i-then-is_dot.result (kept-more a.s.now a.from c.loop-i.i (c.loop-i.i + 2) 0x0358 c.loop-i.invariant.1 (inr (inl refl)) e.1) r.2)
+    (r.1, kept_on a.s.now a.from (c.loop-i.i + 2) c.ascii_to-i-then-is_dot.result (kept_more a.s.now a.from c.loop-i.i (c.loop-i.i + 2) 0x0358 c.loop-i.invariant.1 (inr (inl refl)) e.1) r.2)
 
 pub is_nasal-requires : goal.is_nasal-requires
 is_nasal-requires c = c.loop-i-test.true
@@ -44,7 +44,7 @@ loop-i-preserved c =
     let a = c.args in
     let e = c.is_nasal.ensures c.if-is_nasal.true in
     let r = c.ascii_to-i-then-is_nasal.ensures in
-    (r.1, kept-on a.s.now a.from (c.loop-i.i + 3) c.ascii_to-i-then-is_nasal.result (kept-more a.s.now a.from c.loop-i.i (c.loop-i.i + 3) 0x207F c.loop-i.invariant.1 (inr (inr refl)) e.1) r.2)
+    (r.1, kept_on a.s.now a.from (c.loop-i.i + 3) c.ascii_to-i-then-is_nasal.result (kept_more a.s.now a.from c.loop-i.i (c.loop-i.i + 3) 0x207F c.loop-i.invariant.1 (inr (inr refl)) e.1) r.2)
 
 pub returns-else-is_nasal : goal.returns-else-is_nasal
 returns-else-is_nasal c = c.loop-i.invariant

@@ -1,6 +1,6 @@
 use mathlib.Core.Path.{refl}
 use Prim.Native.Nat.{◌+◌}
-use Rattle.ji.proofs.lomaji.single.Laws.{letter-marked}
+use Rattle.ji.proofs.lomaji.single.Laws.{letter_marked}
 use native.Mathlib.Omega.{arith}
 use Rattle.ji.proofs.lomaji.single.marked_at.Goals as goal
 
@@ -13,7 +13,7 @@ overflow_cast-b c = let a = c.args in omega (arith, c.shared_slice_known-then-at
 pub returns-then-a-eq6 : goal.returns-then-a-eq6
 returns-then-a-eq6 c =
     let a = c.args in
-    letter-marked a.s.now a.at _ c.letter.result c.if-at-s.true c.if-a-eq6.true c.if-b-eq2.true refl c.letter.ensures
+    letter_marked a.s.now a.at _ c.letter.result c.if-at-s.true c.if-a-eq6.true c.if-b-eq2.true refl c.letter.ensures
 
 pub returns-else-a-eq6 : goal.returns-else-a-eq6
 returns-else-a-eq6 c = λ some. absurd (some refl)

@@ -5,19 +5,19 @@ use native.Mathlib.Nat.{sub-zero}
 use lib.ListN.{length, take, drop, set, length-append, length-drop}
 use lib.Seq.{append_snoc, take_all, length-take-le}
 use Rattle.ji.specs.Written.{Written}
-use Rattle.ji.specs.Tone.{toneNumber}
+use Rattle.ji.specs.Tone.{tone_number}
 use Rattle.ji.specs.Reply.{refused, placed}
-use Rattle.ji.specs.Lomaji.Strip.{markTone}
+use Rattle.ji.specs.Lomaji.Strip.{mark_tone}
 use Rattle.ji.specs.declared.reply.Refusal.TheVariants.{NoRoom}
-use Rattle.ji.proofs.Writing.{written-one, written-behind, written-length}
-use Rattle.ji.proofs.Replies.{placed-not, placed-written}
+use Rattle.ji.proofs.Writing.{written_one, written_behind, written_length}
+use Rattle.ji.proofs.Replies.{placed_not, placed_written}
 use native.Mathlib.Omega.{arith}
 use Rattle.ji.proofs.lomaji.single.place_marked.Goals as goal
 
 -- one byte of the letter's two is left
-no-room : (tone : ℕ) (text out : List ℕ) (at base : ℕ) → at + 2 ≤ length text → length out < length text - 1 → refused NoRoom out ≡ placed tone (take at text ++ (base ∷ drop (at + 2) text)) out
-no-room tone text out at base inside short =
-    placed-not tone (take at text ++ (base ∷ drop (at + 2) text)) out
+no_room : (tone : ℕ) (text out : List ℕ) (at base : ℕ) → at + 2 ≤ length text → length out < length text - 1 → refused NoRoom out ≡ placed tone (take at text ++ (base ∷ drop (at + 2) text)) out
+no_room tone text out at base inside short =
+    placed_not tone (take at text ++ (base ∷ drop (at + 2) text)) out
     (omega (arith, length-append (take at text) (base ∷ drop (at + 2) text), length-take-le at text (omega arith), length-drop (at + 2) text))
 
 -- the front is copied, then the base is stored, then what is behind the letter is copied
@@ -31,60 +31,60 @@ module _ (text out front : List ℕ) (at base : ℕ) (inside : at + 2 ≤ length
   abbrev lent : List ℕ
   lent = take (length based - (at + 1)) (drop (at + 1) based)
 
-  front-is : take (at - 0) text ≡ take at text
-  front-is = ap (λ (k : ℕ). take k text) (sub-zero at)
+  front_is : take (at - 0) text ≡ take at text
+  front_is = ap (λ (k : ℕ). take k text) (sub-zero at)
 
-  front-size : length (take (at - 0) text) ≡ at
-  front-size = ap length front-is ∙ length-take-le at text (omega arith)
+  front_size : length (take (at - 0) text) ≡ at
+  front_size = ap length front_is ∙ length-take-le at text (omega arith)
 
-  front-written : Written out front at (take at text)
-  front-written = subst (λ (l : List ℕ). Written out front at l) front-is (subst (λ (k : ℕ). Written out front k (take (at - 0) text)) front-size w)
+  front_written : Written out front at (take at text)
+  front_written = subst (λ (l : List ℕ). Written out front at l) front_is (subst (λ (k : ℕ). Written out front k (take (at - 0) text)) front_size w)
 
-  base-written : Written out based (at + 1) (take at text ++ (base ∷ []))
-  base-written = written-one front-written base (omega arith)
+  base_written : Written out based (at + 1) (take at text ++ (base ∷ []))
+  base_written = written_one front_written base (omega arith)
 
-  based-length : length based ≡ length out
-  based-length = written-length base-written
+  based_length : length based ≡ length out
+  based_length = written_length base_written
 
-  next-inside : at + 1 ≤ length based
-  next-inside = omega (arith, based-length)
+  next_inside : at + 1 ≤ length based
+  next_inside = omega (arith, based_length)
 
-  behind-is : behind ≡ drop (at + 2) text
-  behind-is = take_all (length text - (at + 2)) (drop (at + 2) text) (omega (arith, length-drop (at + 2) text))
+  behind_is : behind ≡ drop (at + 2) text
+  behind_is = take_all (length text - (at + 2)) (drop (at + 2) text) (omega (arith, length-drop (at + 2) text))
 
-  behind-fits : length behind ≤ length lent
-  behind-fits =
-      omega (arith, based-length, ap length behind-is, length-drop (at + 2) text, length-drop (at + 1) based, length-take-le (length based - (at + 1)) (drop (at + 1) based) (omega (arith, length-drop (at + 1) based)))
+  behind_fits : length behind ≤ length lent
+  behind_fits =
+      omega (arith, based_length, ap length behind_is, length-drop (at + 2) text, length-drop (at + 1) based, length-take-le (length based - (at + 1)) (drop (at + 1) based) (omega (arith, length-drop (at + 1) based)))
 
-  all-written : (part : List ℕ) → Written lent part (length behind) behind
+  all_written : (part : List ℕ) → Written lent part (length behind) behind
       → Written out (take (at + 1) based ++ (part ++ drop (length based - (at + 1)) (drop (at + 1) based))) (length text - 1) (take at text ++ (base ∷ drop (at + 2) text))
-  all-written part v =
-      let size : at + 1 + length behind ≡ length text - 1 = omega (arith, ap length behind-is, length-drop (at + 2) text) in
-      let is : take at text ++ (base ∷ []) ++ behind ≡ take at text ++ (base ∷ drop (at + 2) text) = append_snoc (take at text) base behind ∙ ap (λ (l : List ℕ). take at text ++ (base ∷ l)) behind-is in
-      rw (← size, ← is) (written-behind base-written v)
+  all_written part v =
+      let size : at + 1 + length behind ≡ length text - 1 = omega (arith, ap length behind_is, length-drop (at + 2) text) in
+      let is : take at text ++ (base ∷ []) ++ behind ≡ take at text ++ (base ∷ drop (at + 2) text) = append_snoc (take at text) base behind ∙ ap (λ (l : List ℕ). take at text ++ (base ∷ l)) behind_is in
+      rw (← size, ← is) (written_behind base_written v)
 
 pub returns-then-out-text : goal.returns-then-out-text
 returns-then-out-text c =
-    no-room (toneNumber (markTone (c.args.letter % 65536))) c.args.text.now c.args.out.now c.args.at (c.args.letter / 65536) c.requires.0 c.if-out-text.true
+    no_room (tone_number (mark_tone (c.args.letter % 65536))) c.args.text.now c.args.out.now c.args.at (c.args.letter / 65536) c.requires.0 c.if-out-text.true
 
 pub slice_bounds-copy-count-3 : goal.slice_bounds-copy-count-3
 slice_bounds-copy-count-3 c =
     let f = c.copy in
-    next-inside c.args.text.now c.args.out.now f.new.out c.args.at (c.args.letter / 65536) c.requires.0 c.if-out-text.false f.ensures
+    next_inside c.args.text.now c.args.out.now f.new.out c.args.at (c.args.letter / 65536) c.requires.0 c.if-out-text.false f.ensures
 
 pub slice_bounds-copy-start-3 : goal.slice_bounds-copy-start-3
 slice_bounds-copy-start-3 c =
     let f = c.copy in
-    next-inside c.args.text.now c.args.out.now f.new.out c.args.at (c.args.letter / 65536) c.requires.0 c.if-out-text.false f.ensures
+    next_inside c.args.text.now c.args.out.now f.new.out c.args.at (c.args.letter / 65536) c.requires.0 c.if-out-text.false f.ensures
 
 pub copy-requires-2 : goal.copy-requires-2
 copy-requires-2 c =
     let f = c.copy in
-    behind-fits c.args.text.now c.args.out.now f.new.out c.args.at (c.args.letter / 65536) c.requires.0 c.if-out-text.false f.ensures
+    behind_fits c.args.text.now c.args.out.now f.new.out c.args.at (c.args.letter / 65536) c.requires.0 c.if-out-text.false f.ensures
 
 pub returns : goal.returns
 returns c =
     let f = c.copy in
     rw c.mark_tone.ensures
-    (placed-written _ _ c.args.out.now _ _
-    (all-written c.args.text.now c.args.out.now f.new.out c.args.at (c.args.letter / 65536) c.requires.0 c.if-out-text.false f.ensures c.copy-2.new.out c.copy-2.ensures))
+    (placed_written _ _ c.args.out.now _ _
+    (all_written c.args.text.now c.args.out.now f.new.out c.args.at (c.args.letter / 65536) c.requires.0 c.if-out-text.false f.ensures c.copy-2.new.out c.copy-2.ensures))

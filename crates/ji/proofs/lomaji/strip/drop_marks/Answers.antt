@@ -4,59 +4,59 @@ use mathlib.Core.List.{List, [], ◌∷◌, ◌++◌, append_assoc, append-nil}
 use Prim.Native.Nat.{ℕ, ◌+◌, ◌-◌, ◌≤◌, ◌<◌}
 use lib.ListN.{length, drop, get_or, set, length-set}
 use Rattle.ji.specs.Written.{Written}
-use Rattle.ji.specs.Tone.{isTone}
-use Rattle.ji.specs.Lomaji.Strip.{markTone, isToneMark, withoutMarks, droppedMarks, lastTone}
+use Rattle.ji.specs.Tone.{is_tone}
+use Rattle.ji.specs.Lomaji.Strip.{mark_tone, is_tone_mark, without_marks, dropped_marks, last_tone}
 use Rattle.ji.specs.declared.tone.Tone.{Tone}
 use Rattle.ji.specs.declared.tone.Tone.TheVariants.{None}
-use Rattle.ji.proofs.Writing.{written-none, written-one, written-rest, written-length}
-use Rattle.ji.proofs.lomaji.strip.Laws.{mark-is, without-kept, without-dropped, marks-kept, marks-dropped, without-end, marks-end, last-none, last-more}
+use Rattle.ji.proofs.Writing.{written_none, written_one, written_rest, written_length}
+use Rattle.ji.proofs.lomaji.strip.Laws.{mark_is, without_kept, without_dropped, marks_kept, marks_dropped, without_end, marks_end, last_none, last_more}
 use native.Mathlib.Omega.{arith}
 use Rattle.ji.proofs.lomaji.strip.drop_marks.Goals as goal
 
-module _ (s₀ s : List ℕ) (i n : ℕ) (last : Tone) (v : ((n ≤ i) × (w : List ℕ) × Written s₀ s n w × (w ++ withoutMarks (drop i s₀) ≡ withoutMarks s₀) × (lastTone last (droppedMarks (drop i s₀)) ≡ lastTone None (droppedMarks s₀)))) (h : i < length s) where
+module _ (s₀ s : List ℕ) (i n : ℕ) (last : Tone) (v : ((n ≤ i) × (w : List ℕ) × Written s₀ s n w × (w ++ without_marks (drop i s₀) ≡ without_marks s₀) × (last_tone last (dropped_marks (drop i s₀)) ≡ last_tone None (dropped_marks s₀)))) (h : i < length s) where
   shorter : i < length s₀
-  shorter = omega (arith, written-length v.2)
+  shorter = omega (arith, written_length v.2)
 
   -- what stands at i has not been written over
   unread : get_or s i 0 ≡ get_or s₀ i 0
-  unread = let k : n + (i - n) ≡ i = omega arith in subst (λ (j : ℕ). get_or s j 0 ≡ get_or s₀ j 0) k (written-rest v.2 (i - n))
+  unread = let k : n + (i - n) ≡ i = omega arith in subst (λ (j : ℕ). get_or s j 0 ≡ get_or s₀ j 0) k (written_rest v.2 (i - n))
 
   -- a mark is dropped ..
-  module _ (t : Tone) (e : t ≡ markTone (get_or s i 0)) (m : isTone t ≡ true) where
-    is-mark : isToneMark (get_or s₀ i 0) ≡ true
-    is-mark = mark-is (get_or s₀ i 0) ∙ ap (λ (c : ℕ). isTone (markTone c)) (sym unread) ∙ ap isTone (sym e) ∙ m
+  module _ (t : Tone) (e : t ≡ mark_tone (get_or s i 0)) (m : is_tone t ≡ true) where
+    is_mark : is_tone_mark (get_or s₀ i 0) ≡ true
+    is_mark = mark_is (get_or s₀ i 0) ∙ ap (λ (c : ℕ). is_tone (mark_tone c)) (sym unread) ∙ ap is_tone (sym e) ∙ m
 
-    drops : ((n ≤ (i + 1)) × (w : List ℕ) × Written s₀ s n w × (w ++ withoutMarks (drop (i + 1) s₀) ≡ withoutMarks s₀) × (lastTone t (droppedMarks (drop (i + 1) s₀)) ≡ lastTone None (droppedMarks s₀)))
+    drops : ((n ≤ (i + 1)) × (w : List ℕ) × Written s₀ s n w × (w ++ without_marks (drop (i + 1) s₀) ≡ without_marks s₀) × (last_tone t (dropped_marks (drop (i + 1) s₀)) ≡ last_tone None (dropped_marks s₀)))
     drops = (
       omega arith,
       v.1,
       v.2,
-      ap (λ (l : List ℕ). v.1 ++ l) (sym (without-dropped s₀ i shorter is-mark)) ∙ v.3,
-      rw (e, unread) (sym (last-more last (get_or s₀ i 0) (droppedMarks (drop (i + 1) s₀))) ∙ ap (lastTone last) (sym (marks-dropped s₀ i shorter is-mark))) ∙ v.4,
+      ap (λ (l : List ℕ). v.1 ++ l) (sym (without_dropped s₀ i shorter is_mark)) ∙ v.3,
+      rw (e, unread) (sym (last_more last (get_or s₀ i 0) (dropped_marks (drop (i + 1) s₀))) ∙ ap (last_tone last) (sym (marks_dropped s₀ i shorter is_mark))) ∙ v.4,
     )
 
   -- .. and anything else kept
-  module _ (t : Tone) (e : t ≡ markTone (get_or s i 0)) (m : isTone t ≡ false) where
-    no-tone : isToneMark (get_or s₀ i 0) ≡ false
-    no-tone = mark-is (get_or s₀ i 0) ∙ ap (λ (c : ℕ). isTone (markTone c)) (sym unread) ∙ ap isTone (sym e) ∙ m
+  module _ (t : Tone) (e : t ≡ mark_tone (get_or s i 0)) (m : is_tone t ≡ false) where
+    no_tone : is_tone_mark (get_or s₀ i 0) ≡ false
+    no_tone = mark_is (get_or s₀ i 0) ∙ ap (λ (c : ℕ). is_tone (mark_tone c)) (sym unread) ∙ ap is_tone (sym e) ∙ m
 
-    keeps : (((n + 1) ≤ (i + 1)) × (w : List ℕ) × Written s₀ (set s n (get_or s i 0)) (n + 1) w × (w ++ withoutMarks (drop (i + 1) s₀) ≡ withoutMarks s₀) × (lastTone last (droppedMarks (drop (i + 1) s₀)) ≡ lastTone None (droppedMarks s₀)))
+    keeps : (((n + 1) ≤ (i + 1)) × (w : List ℕ) × Written s₀ (set s n (get_or s i 0)) (n + 1) w × (w ++ without_marks (drop (i + 1) s₀) ≡ without_marks s₀) × (last_tone last (dropped_marks (drop (i + 1) s₀)) ≡ last_tone None (dropped_marks s₀)))
     keeps = (
       omega arith,
       v.1 ++ (get_or s i 0 ∷ []),
-      written-one v.2 (get_or s i 0) (omega (arith, shorter)),
-      append_assoc v.1 (get_or s i 0 ∷ []) (withoutMarks (drop (i + 1) s₀)) ∙ ap (λ (c : ℕ). v.1 ++ (c ∷ withoutMarks (drop (i + 1) s₀))) unread ∙ ap (λ (l : List ℕ). v.1 ++ l) (sym (without-kept s₀ i shorter no-tone)) ∙ v.3,
-      ap (lastTone last) (sym (marks-kept s₀ i shorter no-tone)) ∙ v.4,
+      written_one v.2 (get_or s i 0) (omega (arith, shorter)),
+      append_assoc v.1 (get_or s i 0 ∷ []) (without_marks (drop (i + 1) s₀)) ∙ ap (λ (c : ℕ). v.1 ++ (c ∷ without_marks (drop (i + 1) s₀))) unread ∙ ap (λ (l : List ℕ). v.1 ++ l) (sym (without_kept s₀ i shorter no_tone)) ∙ v.3,
+      ap (last_tone last) (sym (marks_kept s₀ i shorter no_tone)) ∙ v.4,
     )
 
 pub loop-i-init : goal.loop-i-init
-loop-i-init c = (omega arith, [], written-none c.args.s.now, refl, refl)
+loop-i-init c = (omega arith, [], written_none c.args.s.now, refl, refl)
 
 pub offset_bounds-s-i : goal.offset_bounds-s-i
-offset_bounds-s-i c = omega (arith, written-length c.loop-i.invariant.2)
+offset_bounds-s-i c = omega (arith, written_length c.loop-i.invariant.2)
 
 pub overflow_add-i : goal.overflow_add-i
-overflow_add-i c = omega (arith, written-length c.loop-i.invariant.2)
+overflow_add-i c = omega (arith, written_length c.loop-i.invariant.2)
 
 pub loop-i-preserved-then-is_tone : goal.loop-i-preserved-then-is_tone
 loop-i-preserved-then-is_tone c =
@@ -69,7 +69,7 @@ pub overflow_add-n : goal.overflow_add-n
 overflow_add-n c = let v = c.loop-i.invariant.0 in omega arith
 
 pub overflow_add-i-else-is_tone : goal.overflow_add-i-else-is_tone
-overflow_add-i-else-is_tone c = omega (arith, written-length c.loop-i.invariant.2)
+overflow_add-i-else-is_tone c = omega (arith, written_length c.loop-i.invariant.2)
 
 pub loop-i-smaller : goal.loop-i-smaller
 loop-i-smaller c = simp length-set (omega arith)
@@ -82,7 +82,7 @@ pub returns : goal.returns
 returns c =
     let v = c.loop-i.invariant in
     let s₀ = c.args.s.now in
-    let h : length s₀ ≤ c.loop-i.i = omega (arith, written-length v.2) in (
-      rw (← v.3, without-end s₀ c.loop-i.i h, append-nil v.1) v.2,
-      sym (ap (lastTone c.loop-i.last) (marks-end s₀ c.loop-i.i h) ∙ last-none c.loop-i.last) ∙ v.4,
+    let h : length s₀ ≤ c.loop-i.i = omega (arith, written_length v.2) in (
+      rw (← v.3, without_end s₀ c.loop-i.i h, append-nil v.1) v.2,
+      sym (ap (last_tone c.loop-i.last) (marks_end s₀ c.loop-i.i h) ∙ last_none c.loop-i.last) ∙ v.4,
     )

@@ -6,16 +6,16 @@ use lib.ListN.{length, take}
 use Rattle.ucd.specs.Unicode16.{unicode16}
 use Rattle.ji.specs.Utf8.{encode}
 use Rattle.ji.specs.Nfd.{nfd}
-use Rattle.ji.specs.Tone.{toneNumber}
+use Rattle.ji.specs.Tone.{tone_number}
 use Rattle.ji.specs.Reply.{placed}
-use Rattle.ji.specs.Lomaji.Strip.{withoutMarks, toneOr, unmarkedTone, stripCall}
+use Rattle.ji.specs.Lomaji.Strip.{without_marks, tone_or, unmarked_tone, strip_call}
 use Rattle.ji.specs.Lomaji.Quick.{Walked}
 use Rattle.ji.specs.declared.tone.Tone.{Tone}
 use Rattle.ji.specs.declared.unicode.ByteLen.{ByteLen}
 use Rattle.ji.specs.declared.lomaji.quick.Outcome.{Outcome}
 use Rattle.ji.specs.declared.lomaji.quick.Outcome.TheVariants.{Whole}
-use Rattle.ji.proofs.Writing.{written-take, written-length}
-use Rattle.ji.proofs.lomaji.strip.Laws.{strip-told}
+use Rattle.ji.proofs.Writing.{written_take, written_length}
+use Rattle.ji.proofs.lomaji.strip.Laws.{strip_told}
 use native.Mathlib.Omega.{arith}
 use Rattle.ji.proofs.lomaji.strip.strip_by.Goals as goal
 
@@ -28,14 +28,14 @@ module _ (s before after : List ℕ) (len : ByteLen) (last : Tone) (h : Walked s
   abbrev rest : List ℕ
   rest = take (len.0 - 0) after
 
-  front : rest ≡ encode (withoutMarks (nfd unicode16 h.0))
-  front = ap (λ (k : ℕ). take k after) (sub-zero len.0) ∙ written-take h.2
+  front : rest ≡ encode (without_marks (nfd unicode16 h.0))
+  front = ap (λ (k : ℕ). take k after) (sub-zero len.0) ∙ written_take h.2
 
-  whole : placed (toneNumber (toneOr last (unmarkedTone rest))) rest out ≡ stripCall unicode16 s out
-  whole = strip-told unicode16 s out h.0 h.1 short last rest h.3 front
+  whole : placed (tone_number (tone_or last (unmarked_tone rest))) rest out ≡ strip_call unicode16 s out
+  whole = strip_told unicode16 s out h.0 h.1 short last rest h.3 front
 
 pub slice_bounds-place_bytes-end : goal.slice_bounds-place_bytes-end
-slice_bounds-place_bytes-end c = let w = (told _ _ _ _ _ c.in-Whole.is c.walk.ensures).2 in omega (arith, w.fits, written-length w)
+slice_bounds-place_bytes-end c = let w = (told _ _ _ _ _ c.in-Whole.is c.walk.ensures).2 in omega (arith, w.fits, written_length w)
 
 pub returns-in-Whole : goal.returns-in-Whole
 returns-in-Whole c =

@@ -1,4 +1,4 @@
-use Rattle.ji.proofs.unicode.Reader.{spread-room}
+use Rattle.ji.proofs.unicode.Reader.{spread_room}
 use mathlib.Core.Path.{◌≡◌, ap, ◌∙◌, subst}
 use mathlib.Core.Bool.{true}
 use mathlib.Core.List.{List}
@@ -8,12 +8,12 @@ use lib.ListN.{take}
 use Rattle.ucd.specs.Unicode16.{unicode16}
 use Rattle.ji.specs.Written.{Written}
 use Rattle.ji.specs.Nfd.{order}
-use Rattle.ji.specs.Lomaji.Strip.{strippedReply}
+use Rattle.ji.specs.Lomaji.Strip.{stripped_reply}
 use Rattle.ji.specs.Reading.{Reading}
 use Rattle.ji.specs.declared.unicode.Decoded.{Decoded}
-use Rattle.ji.proofs.Writing.{written-take, written-length}
-use Rattle.ji.proofs.Replies.{check-within}
-use Rattle.ji.proofs.lomaji.strip.Laws.{strip-refused, strip-good}
+use Rattle.ji.proofs.Writing.{written_take, written_length}
+use Rattle.ji.proofs.Replies.{check_within_law}
+use Rattle.ji.proofs.lomaji.strip.Laws.{strip_refused, strip_good}
 use native.Mathlib.Omega.{arith}
 use Rattle.ji.proofs.lomaji.strip.strip_in.Goals as goal
 
@@ -22,12 +22,12 @@ told : (s before after : List ℕ) (answer x : Decoded) → answer ≡ x → Rea
 told s before after answer x e h = subst (Reading unicode16 true s before after) e h
 
 front : (before after : List ℕ) (n : ℕ) (s : List ℕ) → Written before after n s → take (n - 0) after ≡ s
-front before after n s w = ap (λ (k : ℕ). take k after) (sub-zero n) ∙ written-take w
+front before after n s w = ap (λ (k : ℕ). take k after) (sub-zero n) ∙ written_take w
 
 pub slice_bounds-finish-end : goal.slice_bounds-finish-end
 slice_bounds-finish-end c =
     let w = (told _ _ _ _ _ c.in-Points.is c.decode.ensures).2 in
-    omega (arith, w.fits, written-length w)
+    omega (arith, w.fits, written_length w)
 
 pub finish-requires : goal.finish-requires
 finish-requires c =
@@ -36,14 +36,14 @@ finish-requires c =
 
 pub returns-in-Refused : goal.returns-in-Refused
 returns-in-Refused c =
-    strip-refused unicode16 c.args.text.now c.args.out.now _ (check-within unicode16 c.args.text.now c.requires.0 ∙ (told _ _ _ _ _ c.in-Refused.is c.decode.ensures).0)
+    strip_refused unicode16 c.args.text.now c.args.out.now _ (check_within_law unicode16 c.args.text.now c.requires.0 ∙ (told _ _ _ _ _ c.in-Refused.is c.decode.ensures).0)
 
 pub returns-in-Points : goal.returns-in-Points
 returns-in-Points c =
     let h = told _ _ _ _ _ c.in-Points.is c.decode.ensures in
     c.finish.ensures
-    ∙ ap (λ (s : List ℕ). strippedReply (order unicode16 s) c.args.out.now) (front _ _ _ _ h.2)
-    ∙ strip-good unicode16 c.args.text.now c.args.out.now h.0 (check-within unicode16 c.args.text.now c.requires.0 ∙ h.1)
+    ∙ ap (λ (s : List ℕ). stripped_reply (order unicode16 s) c.args.out.now) (front _ _ _ _ h.2)
+    ∙ strip_good unicode16 c.args.text.now c.args.out.now h.0 (check_within_law unicode16 c.args.text.now c.requires.0 ∙ h.1)
 
 pub decode-requires : goal.decode-requires
-decode-requires c = omega (arith, spread-room true c.args.text.now, c.requires)
+decode-requires c = omega (arith, spread_room true c.args.text.now, c.requires)

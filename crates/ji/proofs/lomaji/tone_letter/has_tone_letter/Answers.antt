@@ -2,25 +2,25 @@ use mathlib.Core.Path.{ap, ◌∙◌}
 use mathlib.Core.List.{List}
 use Prim.Native.Nat.{ℕ}
 use Rattle.ucd.specs.Unicode16.{unicode16}
-use Rattle.ji.specs.Lomaji.ToneLetter.{toneLetter, isSome, hasLetterReply}
-use Rattle.ji.proofs.Writing.{written-length}
-use Rattle.ji.proofs.Readings.{front, nfd-told}
-use Rattle.ji.proofs.lomaji.tone_letter.Laws.{has-refused, has-good}
+use Rattle.ji.specs.Lomaji.ToneLetter.{tone_letter, is_some, has_letter_reply}
+use Rattle.ji.proofs.Writing.{written_length}
+use Rattle.ji.proofs.Readings.{front, nfd_told}
+use Rattle.ji.proofs.lomaji.tone_letter.Laws.{has_refused, has_good}
 use native.Mathlib.Omega.{arith}
 use Rattle.ji.proofs.lomaji.tone_letter.has_tone_letter.Goals as goal
 
 pub slice_bounds-has_letter-end : goal.slice_bounds-has_letter-end
 slice_bounds-has_letter-end c =
-    let w = (nfd-told unicode16 _ _ _ c.in-Points.is c.read_nfd.ensures).2 in
-    omega (arith, w.fits, written-length w)
+    let w = (nfd_told unicode16 _ _ _ c.in-Points.is c.read_nfd.ensures).2 in
+    omega (arith, w.fits, written_length w)
 
 pub returns-in-Refused : goal.returns-in-Refused
 returns-in-Refused c =
     let a = c.args in
-    has-refused unicode16 a.text.now _ (nfd-told unicode16 _ _ _ c.in-Refused.is c.read_nfd.ensures).0
+    has_refused unicode16 a.text.now _ (nfd_told unicode16 _ _ _ c.in-Refused.is c.read_nfd.ensures).0
 
 pub returns-in-Points : goal.returns-in-Points
 returns-in-Points c =
     let a = c.args in
-    let h = nfd-told unicode16 _ _ _ c.in-Points.is c.read_nfd.ensures in
-    c.has_letter.ensures ∙ ap (λ (s : List ℕ). hasLetterReply (isSome (toneLetter s))) (front h.2) ∙ has-good unicode16 a.text.now h.0 h.1
+    let h = nfd_told unicode16 _ _ _ c.in-Points.is c.read_nfd.ensures in
+    c.has_letter.ensures ∙ ap (λ (s : List ℕ). has_letter_reply (is_some (tone_letter s))) (front h.2) ∙ has_good unicode16 a.text.now h.0 h.1

@@ -5,11 +5,11 @@ use Prim.Native.Nat.{ℕ}
 use Rattle.ucd.specs.Unicode16.{unicode16}
 use Rattle.ji.specs.Unicode.{spread}
 use Rattle.ji.specs.Reading.{Reading}
-use Rattle.ji.specs.Lomaji.ToneLetter.{toneLetter, letterAt}
-use Rattle.ji.proofs.Writing.{written-length}
-use Rattle.ji.proofs.Replies.{check-within}
+use Rattle.ji.specs.Lomaji.ToneLetter.{tone_letter, letter_at}
+use Rattle.ji.proofs.Writing.{written_length}
+use Rattle.ji.proofs.Replies.{check_within_law}
 use Rattle.ji.proofs.Readings.{front, told}
-use Rattle.ji.proofs.lomaji.tone_letter.Laws.{letter-refused, letter-good}
+use Rattle.ji.proofs.lomaji.tone_letter.Laws.{letter_refused, letter_good}
 use native.Mathlib.Omega.{arith}
 use Rattle.ji.proofs.lomaji.tone_letter.letter_by.Goals as goal
 use Rattle.ji.proofs.lomaji.tone_letter.letter_by.Goals.{After-read_points}
@@ -22,7 +22,7 @@ module _ (c : After-read_points) where
 pub slice_bounds-letter_in-end : goal.slice_bounds-letter_in-end
 slice_bounds-letter_in-end c =
     let w = (told unicode16 _ _ _ false c.in-Points.is (reading (goal.at.slice_bounds-letter_in-end c).After-read_points)).2 in
-    omega (arith, w.fits, written-length w)
+    omega (arith, w.fits, written_length w)
 
 pub letter_in-requires : goal.letter_in-requires
 letter_in-requires c =
@@ -32,10 +32,10 @@ letter_in-requires c =
 
 pub returns-in-Refused : goal.returns-in-Refused
 returns-in-Refused c =
-    letter-refused unicode16 c.args.text.now _ (check-within unicode16 c.args.text.now c.requires.0 ∙ (told unicode16 _ _ _ false c.in-Refused.is (reading (goal.at.returns-in-Refused c).After-read_points)).0)
+    letter_refused unicode16 c.args.text.now _ (check_within_law unicode16 c.args.text.now c.requires.0 ∙ (told unicode16 _ _ _ false c.in-Refused.is (reading (goal.at.returns-in-Refused c).After-read_points)).0)
 
 pub returns-in-Points : goal.returns-in-Points
 unfolding spread
 returns-in-Points c =
     let h = told unicode16 _ _ _ false c.in-Points.is (reading (goal.at.returns-in-Points c).After-read_points) in
-    c.letter_in.ensures ∙ ap (λ (s : List ℕ). letterAt s (toneLetter s)) (front h.2) ∙ letter-good unicode16 c.args.text.now h.0 (check-within unicode16 c.args.text.now c.requires.0 ∙ h.1)
+    c.letter_in.ensures ∙ ap (λ (s : List ℕ). letter_at s (tone_letter s)) (front h.2) ∙ letter_good unicode16 c.args.text.now h.0 (check_within_law unicode16 c.args.text.now c.requires.0 ∙ h.1)

@@ -4,25 +4,25 @@ use Prim.Native.Nat.{ℕ, ◌-◌}
 use native.Mathlib.Nat.{sub-zero}
 use lib.ListN.{take}
 use lib.Seq.{length-take-le}
-use Rattle.khiin.specs.Compose.{NoSignBefore, SettledAs, settledBody}
+use Rattle.khiin.specs.Compose.{NoSignBefore, SettledAs, settled_body}
 use Rattle.khiin.specs.declared.syllable.compose.Settled.{Settled}
-use Rattle.khiin.proofs.syllable.compose.Laws.{front-fits, front-longer}
+use Rattle.khiin.proofs.syllable.compose.Laws.{front_fits, front_longer}
 use native.Mathlib.Omega.{arith}
 use Rattle.khiin.proofs.syllable.compose.compose_points.Goals as goal
 
 -- the settled text at the front of the whole buffer
-whole : (s : List ℕ) (n : ℕ) {part : List ℕ} {r : Settled} → SettledAs part (settledBody (take (n - 0) s)) r → (rest : List ℕ) → SettledAs (part ++ rest) (settledBody (take n s)) r
+whole : (s : List ℕ) (n : ℕ) {part : List ℕ} {r : Settled} → SettledAs part (settled_body (take (n - 0) s)) r → (rest : List ℕ) → SettledAs (part ++ rest) (settled_body (take n s)) r
 whole s n {part} {r} h rest =
-    let g = subst (λ (m : ℕ). SettledAs part (settledBody (take m s)) r) (sub-zero n) h in
-    record { front = front-longer g.front rest; lone = g.lone }
+    let g = subst (λ (m : ℕ). SettledAs part (settled_body (take m s)) r) (sub-zero n) h in
+    record { front = front_longer g.front rest; lone = g.lone }
 
 pub place_settled-requires : goal.place_settled-requires
 place_settled-requires c =
     let n = length-take-le (c.args.n - 0) c.args.s.now (omega (arith, c.requires.1)) in
-    let few = front-fits c.settle-settled.ensures.front in
+    let few = front_fits c.settle-settled.ensures.front in
     (omega (arith, few, c.settle-settled.auto.s, n, c.requires.0), omega (arith, few, c.settle-settled.auto.s, n, c.requires.1), λ e. let q = whole c.args.s.now c.args.n c.settle-settled.ensures _ in subst NoSignBefore (sym q.front.is) (q.lone e))
 
 pub returns : goal.returns
 returns c =
-    λ rawInput e.
-    c.place_settled.ensures rawInput (take c.args.n c.args.s.now) e (sym (whole c.args.s.now c.args.n c.settle-settled.ensures _).front.is)
+    λ raw_input e.
+    c.place_settled.ensures raw_input (take c.args.n c.args.s.now) e (sym (whole c.args.s.now c.args.n c.settle-settled.ensures _).front.is)

@@ -7,37 +7,37 @@ use borrow.Author.Tests.{ne_eqb}
 use lib.Dec.{eqb}
 use lib.ListN.{drop, get_or}
 use Rattle.ji.specs.Text.{lower}
-use Rattle.ji.proofs.Bools.{false-true, and-no, and-false}
-use Rattle.khiin.specs.Compose.{isNasalPair}
-use Rattle.khiin.proofs.syllable.compose.Once.{nasal-at}
+use Rattle.ji.proofs.Bools.{false_true, and_no, and_false}
+use Rattle.khiin.specs.Compose.{is_nasal_pair}
+use Rattle.khiin.proofs.syllable.compose.Once.{nasal_at}
 use native.Mathlib.Omega.{arith}
 use Rattle.khiin.proofs.syllable.compose.has_nasal.Goals as goal
 use Rattle.khiin.proofs.syllable.compose.has_nasal.Goals.{then-lower-eq110+else-lower-eq110-2, else-lower-eq110}
 
 -- one place more
-more : (s : List ℕ) (i : ℕ) → 2 ≤ i → ((k : ℕ) → k + 2 < i → isNasalPair (drop k s) ≡ false) → isNasalPair (drop (i - 2) s) ≡ false → (k : ℕ) → k + 2 < i + 1 → isNasalPair (drop k s) ≡ false
-more s i some n e k h = by-place (ℕ_discrete (k + 2) i)
+more : (s : List ℕ) (i : ℕ) → 2 ≤ i → ((k : ℕ) → k + 2 < i → is_nasal_pair (drop k s) ≡ false) → is_nasal_pair (drop (i - 2) s) ≡ false → (k : ℕ) → k + 2 < i + 1 → is_nasal_pair (drop k s) ≡ false
+more s i some n e k h = by_place (ℕ_discrete (k + 2) i)
   where
-    by-place : Dec (k + 2 ≡ i) → isNasalPair (drop k s) ≡ false
-    by-place (yes z) = let w : i - 2 ≡ k = omega arith in subst (λ (m : ℕ). isNasalPair (drop m s) ≡ false) w e
-    by-place (no z) = n k (omega arith)
+    by_place : Dec (k + 2 ≡ i) → is_nasal_pair (drop k s) ≡ false
+    by_place (yes z) = let w : i - 2 ≡ k = omega arith in subst (λ (m : ℕ). is_nasal_pair (drop m s) ≡ false) w e
+    by_place (no z) = n k (omega arith)
 
-first-not : (s : List ℕ) (i : ℕ) → (lower (get_or s (i - 2) 0) ≡ 0x6E → ⊥) → isNasalPair (drop (i - 2) s) ≡ false
-first-not s i n = nasal-at s (i - 2) ∙ and-no _ _ (ne_eqb _ _ n)
+first_not : (s : List ℕ) (i : ℕ) → (lower (get_or s (i - 2) 0) ≡ 0x6E → ⊥) → is_nasal_pair (drop (i - 2) s) ≡ false
+first_not s i n = nasal_at s (i - 2) ∙ and_no _ _ (ne_eqb _ _ n)
 
-second-not : (s : List ℕ) (i : ℕ) → 2 ≤ i → (lower (get_or s (i - 1) 0) ≡ 0x6E → ⊥) → isNasalPair (drop (i - 2) s) ≡ false
-second-not s i h n =
+second_not : (s : List ℕ) (i : ℕ) → 2 ≤ i → (lower (get_or s (i - 1) 0) ≡ 0x6E → ⊥) → is_nasal_pair (drop (i - 2) s) ≡ false
+second_not s i h n =
     let z : i - 2 + 1 ≡ i - 1 = omega arith in
-    nasal-at s (i - 2)
+    nasal_at s (i - 2)
     ∙ ap (λ (m : ℕ). eqb (lower (get_or s (i - 2) 0)) 0x6E && eqb (lower (get_or s m 0)) 0x6E) z
     ∙ ap (λ (b : Bool). eqb (lower (get_or s (i - 2) 0)) 0x6E && b) (ne_eqb _ _ n)
-    ∙ and-false (eqb (lower (get_or s (i - 2) 0)) 0x6E)
+    ∙ and_false (eqb (lower (get_or s (i - 2) 0)) 0x6E)
 
 pub loop-i-init : goal.loop-i-init
 loop-i-init c = (omega arith, λ k h. absurd (omega arith))
 
 pub returns-then-lower-eq110-2 : goal.returns-then-lower-eq110-2
-returns-then-lower-eq110-2 c = λ e. absurd (false-true (sym e))
+returns-then-lower-eq110-2 c = λ e. absurd (false_true (sym e))
 
 pub loop-i-preserved : goal.loop-i-preserved
 loop-i-preserved c =
@@ -46,8 +46,8 @@ loop-i-preserved c =
       omega arith,
       more s i c.loop-i.invariant.0 c.loop-i.invariant.1
           (elim c.if-lower-eq110.branch [
-            | then-lower-eq110+else-lower-eq110-2 w ↦ second-not s i c.loop-i.invariant.0 (λ z. w.if-lower-eq110-2.false (w.lower-then-lower-eq110.ensures ∙ z))
-            | else-lower-eq110 w ↦ first-not s i (λ z. w.if-lower-eq110.false (c.lower.ensures ∙ z))
+            | then-lower-eq110+else-lower-eq110-2 w ↦ second_not s i c.loop-i.invariant.0 (λ z. w.if-lower-eq110-2.false (w.lower-then-lower-eq110.ensures ∙ z))
+            | else-lower-eq110 w ↦ first_not s i (λ z. w.if-lower-eq110.false (c.lower.ensures ∙ z))
           ]),
     )
 

@@ -1,8 +1,8 @@
 use mathlib.Core.Path.{sym, ap, ◌∙◌}
 use Rattle.ji.specs.Unicode.{listed}
 use Rattle.ji.specs.Text.{points}
-use Rattle.ji.proofs.Bools.{and-yes, and-no}
-use Rattle.khiin.proofs.syllable.compose.Laws.{pair-at}
+use Rattle.ji.proofs.Bools.{and_yes, and_no}
+use Rattle.khiin.proofs.syllable.compose.Laws.{pair_at_law}
 use Rattle.khiin.proofs.syllable.compose.is_pair.Goals as goal
 
 pub returns-then-is_first : goal.returns-then-is_first
@@ -10,7 +10,7 @@ returns-then-is_first c =
     let a = c.args in
     c.is_second.ensures
     ∙ ap (listed (points "oOuU")) c.at.ensures
-    ∙ sym (pair-at a.s.now a.i ∙ and-yes _ _ (sym c.is_first.ensures ∙ c.if-is_first.true))
+    ∙ sym (pair_at_law a.s.now a.i ∙ and_yes _ _ (sym c.is_first.ensures ∙ c.if-is_first.true))
 
 pub returns : goal.returns
-returns c = let a = c.args in sym (pair-at a.s.now a.i ∙ and-no _ _ (sym c.is_first.ensures ∙ c.if-is_first.false))
+returns c = let a = c.args in sym (pair_at_law a.s.now a.i ∙ and_no _ _ (sym c.is_first.ensures ∙ c.if-is_first.false))

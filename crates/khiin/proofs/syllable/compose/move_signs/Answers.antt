@@ -1,21 +1,21 @@
 use mathlib.Core.Path.{sym, subst}
 use lib.ListN.{length}
-use Rattle.ji.proofs.Bools.{false-true}
+use Rattle.ji.proofs.Bools.{false_true}
 use Rattle.khiin.specs.Syllable.{moved}
 use Rattle.khiin.specs.Compose.{Front, NoSignBefore}
-use Rattle.khiin.proofs.syllable.compose.Laws.{front-fits, front-whole, front-step}
-use Rattle.khiin.proofs.syllable.compose.Once.{moved-none-lone}
+use Rattle.khiin.proofs.syllable.compose.Laws.{front_fits, front_whole, front_step}
+use Rattle.khiin.proofs.syllable.compose.Once.{moved_none_lone}
 use native.Mathlib.Omega.{arith}
 use Rattle.khiin.proofs.syllable.compose.move_signs.Goals as goal
 
 pub slice_bounds-move_sign-end : goal.slice_bounds-move_sign-end
-slice_bounds-move_sign-end c = omega (arith, front-fits c.move_sign-n.ensures)
+slice_bounds-move_sign-end c = omega (arith, front_fits c.move_sign-n.ensures)
 
 pub returns-then-has_sign : goal.returns-then-has_sign
 returns-then-has_sign c =
     record {
-      front = front-step c.move_sign-n.ensures (moved 0x1D3A) c.move_sign-m.ensures _;
-      lone = λ e. absurd (false-true e);
+      front = front_step c.move_sign-n.ensures (moved 0x1D3A) c.move_sign-m.ensures _;
+      lone = λ e. absurd (false_true e);
     }
 
 pub returns : goal.returns
@@ -23,6 +23,6 @@ returns c =
     let s = c.args.s.now in
     let n = c.has_sign.ensures c.if-has_sign.false in
     record {
-      front = subst (Front s (length s)) (sym (moved-none-lone s n)) (front-whole s);
-      lone = λ e. subst NoSignBefore (sym (moved-none-lone s n)) n;
+      front = subst (Front s (length s)) (sym (moved_none_lone s n)) (front_whole s);
+      lone = λ e. subst NoSignBefore (sym (moved_none_lone s n)) n;
     }

@@ -1,10 +1,10 @@
 use mathlib.Core.Path.{sym, ◌∙◌}
-use Rattle.khiin.proofs.syllable.compose.Laws.{front-whole, nasalised-yes, nasalised-no}
+use Rattle.khiin.proofs.syllable.compose.Laws.{front_whole, nasalised_yes, nasalised_no}
 use Rattle.khiin.proofs.syllable.compose.nasalise.Goals as goal
 
 pub returns-then-has_nasal : goal.returns-then-has_nasal
 returns-then-has_nasal c =
-    rw (nasalised-yes c.args.s.now (sym c.ends_nasal.ensures ∙ c.if-ends_nasal.true)) c.respell_nasals.ensures
+    rw (nasalised_yes c.args.s.now (sym c.ends_nasal.ensures ∙ c.if-ends_nasal.true)) c.respell_nasals.ensures
 
 pub end_in_sign-requires : goal.end_in_sign-requires
 end_in_sign-requires c =
@@ -12,9 +12,9 @@ end_in_sign-requires c =
 
 pub returns-then-ends_nasal : goal.returns-then-ends_nasal
 returns-then-ends_nasal c =
-    rw (nasalised-yes c.args.s.now (sym c.ends_nasal.ensures ∙ c.if-ends_nasal.true)) c.end_in_sign.ensures
+    rw (nasalised_yes c.args.s.now (sym c.ends_nasal.ensures ∙ c.if-ends_nasal.true)) c.end_in_sign.ensures
 
 pub returns : goal.returns
 returns c =
     let s = c.args.s.now in
-    rw (nasalised-no s (sym c.ends_nasal.ensures ∙ c.if-ends_nasal.false)) (front-whole s)
+    rw (nasalised_no s (sym c.ends_nasal.ensures ∙ c.if-ends_nasal.false)) (front_whole s)

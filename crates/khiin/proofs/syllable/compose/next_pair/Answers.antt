@@ -4,17 +4,17 @@ use mathlib.Core.Bool.{false}
 use Prim.Native.Nat.{ℕ, ◌+◌}
 use native.Mathlib.Decide.{ℕ_discrete}
 use lib.ListN.{drop}
-use Rattle.khiin.specs.Compose.{isPair, NoPairIn}
+use Rattle.khiin.specs.Compose.{is_pair, NoPairIn}
 use native.Mathlib.Omega.{arith}
 use Rattle.khiin.proofs.syllable.compose.next_pair.Goals as goal
 
 -- one place more
-more : (s : List ℕ) (from i : ℕ) → NoPairIn from i s → isPair (drop i s) ≡ false → NoPairIn from (i + 1) s
-more s from i n e k l h = by-place (ℕ_discrete k i)
+more : (s : List ℕ) (from i : ℕ) → NoPairIn from i s → is_pair (drop i s) ≡ false → NoPairIn from (i + 1) s
+more s from i n e k l h = by_place (ℕ_discrete k i)
   where
-    by-place : Dec (k ≡ i) → isPair (drop k s) ≡ false
-    by-place (yes z) = ap (λ (m : ℕ). isPair (drop m s)) z ∙ e
-    by-place (no z) = n k l (omega arith)
+    by_place : Dec (k ≡ i) → is_pair (drop k s) ≡ false
+    by_place (yes z) = ap (λ (m : ℕ). is_pair (drop m s)) z ∙ e
+    by_place (no z) = n k l (omega arith)
 
 pub loop-i-init : goal.loop-i-init
 loop-i-init c = (omega (arith, c.requires), omega (arith, c.requires), λ k l h. absurd (omega arith))

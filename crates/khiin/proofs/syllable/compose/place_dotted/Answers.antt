@@ -4,8 +4,8 @@ use Prim.Native.Nat.{ℕ}
 use Rattle.ji.specs.Unicode.{unicode16}
 use Rattle.ji.specs.Utf8.{encode}
 use Rattle.ji.specs.Reply.{placed}
-use Rattle.khiin.specs.Syllable.{mark_of, composedWith}
-use Rattle.khiin.proofs.syllable.compose.Laws.{composed-is}
+use Rattle.khiin.specs.Syllable.{mark_of, composed_with}
+use Rattle.khiin.proofs.syllable.compose.Laws.{composed_is}
 use native.Mathlib.Omega.{arith}
 use Rattle.khiin.proofs.syllable.compose.place_dotted.Goals as goal
 
@@ -15,8 +15,8 @@ place_spelled-requires c =
 
 pub returns : goal.returns
 returns c =
-    λ rawInput body e f.
-    c.place_spelled.ensures rawInput e
+    λ raw_input body e f.
+    c.place_spelled.ensures raw_input e
     ∙ ap (λ (u : List ℕ). placed 0 (encode u) c.args.out.now)
-    (ap (λ (u : List ℕ). composedWith unicode16 rawInput u (mark_of c.args.tone)) c.write_whole-n.ensures.0.is
-    ∙ composed-is rawInput body c.args.s.now c.args.tone c.args.khin f)
+    (ap (λ (u : List ℕ). composed_with unicode16 raw_input u (mark_of c.args.tone)) c.write_whole-n.ensures.0.is
+    ∙ composed_is raw_input body c.args.s.now c.args.tone c.args.khin f)

@@ -1,13 +1,13 @@
 use mathlib.Core.Path.{ap, ◌∙◌}
 use lib.ListN.{take, drop}
 use Rattle.ji.specs.Lomaji.Keys.{respell}
-use Rattle.khiin.specs.Compose.{ePairs}
+use Rattle.khiin.specs.Compose.{e_pairs}
 use Rattle.khiin.proofs.syllable.compose.respell_e.Goals as goal
 
 pub returns : goal.returns
 returns c =
     let a = c.args in
-    let rules = ePairs a.small a.capital in
+    let rules = e_pairs a.small a.capital in
     c.replace_pair-4.ensures
     ∙ ap (respell (drop 3 rules))
     (c.replace_pair-3.ensures

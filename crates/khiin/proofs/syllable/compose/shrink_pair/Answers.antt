@@ -3,32 +3,32 @@ use mathlib.Core.Bool.{true, false}
 use mathlib.Core.List.{List, [], ◌∷◌}
 use Prim.Native.Nat.{ℕ, ◌+◌, ◌≤◌, ◌<◌}
 use lib.ListN.{length, drop, get_or, set, length-drop, length-set}
-use Rattle.ji.specs.Text.{begins, replaceAll}
-use Rattle.ji.proofs.text.Laws.{begins-length, replace-at-hit, replace-at-miss, replace-end}
-use Rattle.khiin.proofs.syllable.compose.Laws.{Walk, walk-start, walk-length, walk-unread, walk-here, walk-one, walk-end}
+use Rattle.ji.specs.Text.{begins, replace_all}
+use Rattle.ji.proofs.text.Laws.{begins_length, replace_at_hit, replace_at_miss, replace_end}
+use Rattle.khiin.proofs.syllable.compose.Laws.{Walk, walk_start, walk_length, walk_unread, walk_here, walk_one, walk_end}
 use native.Mathlib.Omega.{arith}
 use Rattle.khiin.proofs.syllable.compose.shrink_pair.Goals as goal
 
-module _ (a b c : ℕ) {s₀ s : List ℕ} {i n : ℕ} (v : Walk (replaceAll (a ∷ b ∷ []) (c ∷ [])) s₀ s i n) where
-  two-inside : begins (a ∷ b ∷ []) (drop i s) ≡ true → i + 2 ≤ length s
-  two-inside e = omega (arith, begins-length (a ∷ b ∷ []) (drop i s) e, length-drop i s)
+module _ (a b c : ℕ) {s₀ s : List ℕ} {i n : ℕ} (v : Walk (replace_all (a ∷ b ∷ []) (c ∷ [])) s₀ s i n) where
+  two_inside : begins (a ∷ b ∷ []) (drop i s) ≡ true → i + 2 ≤ length s
+  two_inside e = omega (arith, begins_length (a ∷ b ∷ []) (drop i s) e, length-drop i s)
 
   module _ (h : i < length s) where
-    hit : begins (a ∷ b ∷ []) (drop i s) ≡ true → Walk (replaceAll (a ∷ b ∷ []) (c ∷ [])) s₀ (set s n c) (i + 2) (n + 1)
+    hit : begins (a ∷ b ∷ []) (drop i s) ≡ true → Walk (replace_all (a ∷ b ∷ []) (c ∷ [])) s₀ (set s n c) (i + 2) (n + 1)
     hit e =
-        walk-one v (i + 2) c
-        (replace-at-hit (a ∷ b ∷ []) (c ∷ []) s₀ i (omega arith) (omega (arith, walk-length v)) (ap (begins (a ∷ b ∷ [])) (sym (walk-unread v)) ∙ e))
-        (omega arith) (two-inside e)
+        walk_one v (i + 2) c
+        (replace_at_hit (a ∷ b ∷ []) (c ∷ []) s₀ i (omega arith) (omega (arith, walk_length v)) (ap (begins (a ∷ b ∷ [])) (sym (walk_unread v)) ∙ e))
+        (omega arith) (two_inside e)
 
-    miss : begins (a ∷ b ∷ []) (drop i s) ≡ false → Walk (replaceAll (a ∷ b ∷ []) (c ∷ [])) s₀ (set s n (get_or s i 0)) (i + 1) (n + 1)
+    miss : begins (a ∷ b ∷ []) (drop i s) ≡ false → Walk (replace_all (a ∷ b ∷ []) (c ∷ [])) s₀ (set s n (get_or s i 0)) (i + 1) (n + 1)
     miss e =
-        rw (walk-here v)
-        (walk-one v (i + 1) (get_or s₀ i 0)
-        (replace-at-miss (a ∷ b ∷ []) (c ∷ []) s₀ i (omega (arith, walk-length v)) (ap (begins (a ∷ b ∷ [])) (sym (walk-unread v)) ∙ e))
+        rw (walk_here v)
+        (walk_one v (i + 1) (get_or s₀ i 0)
+        (replace_at_miss (a ∷ b ∷ []) (c ∷ []) s₀ i (omega (arith, walk_length v)) (ap (begins (a ∷ b ∷ [])) (sym (walk_unread v)) ∙ e))
         (omega arith) (omega arith))
 
 pub loop-i-init : goal.loop-i-init
-loop-i-init c = walk-start (replaceAll (c.args.a ∷ c.args.b ∷ []) (c.args.c ∷ [])) c.args.s.now
+loop-i-init c = walk_start (replace_all (c.args.a ∷ c.args.b ∷ []) (c.args.c ∷ [])) c.args.s.now
 
 pub bounds-s-n : goal.bounds-s-n
 bounds-s-n c = omega (arith, c.loop-i.invariant.behind)
@@ -37,7 +37,7 @@ pub overflow_add-n : goal.overflow_add-n
 overflow_add-n c = omega (arith, c.loop-i.invariant.behind)
 
 pub overflow_add-i : goal.overflow_add-i
-overflow_add-i c = omega (arith, two-inside c.args.a c.args.b c.args.c c.loop-i.invariant (sym c.are_two.ensures ∙ c.if-are_two.true))
+overflow_add-i c = omega (arith, two_inside c.args.a c.args.b c.args.c c.loop-i.invariant (sym c.are_two.ensures ∙ c.if-are_two.true))
 
 pub loop-i-smaller-then-are_two : goal.loop-i-smaller-then-are_two
 loop-i-smaller-then-are_two c = simp length-set (omega arith)
@@ -61,4 +61,4 @@ pub returns : goal.returns
 returns c =
     let v = c.loop-i.invariant in
     let a = c.args in
-    walk-end v (replace-end (a.a ∷ a.b ∷ []) (a.c ∷ []) a.s.now c.loop-i.i (omega (arith, walk-length v)))
+    walk_end v (replace_end (a.a ∷ a.b ∷ []) (a.c ∷ []) a.s.now c.loop-i.i (omega (arith, walk_length v)))

@@ -1,7 +1,7 @@
 use mathlib.Core.Path.{◌≡◌, sym, subst}
 use Prim.Native.Nat.{ℕ}
 use Rattle.khiin.specs.Compose.{Joined}
-use Rattle.khiin.proofs.syllable.marking.Facts.{joined-not}
+use Rattle.khiin.proofs.syllable.marking.Facts.{joined_not}
 use Rattle.khiin.proofs.syllable.marking.joined.Goals as goal
 
 known : (x r : ℕ) {mark k : ℕ} → mark ≡ k → Joined x k r → Joined x mark r
@@ -29,4 +29,4 @@ pub returns-in-781 : goal.returns-in-781
 returns-in-781 c = known c.args.x c.line.result c.in-781.is c.line.ensures
 
 pub returns-in_default : goal.returns-in_default
-returns-in_default c = joined-not c.args.x c.args.mark
+returns-in_default c = joined_not c.args.x c.args.mark

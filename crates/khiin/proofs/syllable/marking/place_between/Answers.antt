@@ -1,17 +1,17 @@
 use mathlib.Core.List.{◌++◌}
-use Rattle.ji.specs.Utf8.{bytesOf}
-use Rattle.khiin.proofs.syllable.marking.Sizes.{no-room, written, no-longer}
+use Rattle.ji.specs.Utf8.{bytes_of}
+use Rattle.khiin.proofs.syllable.marking.Sizes.{no_room, written, no_longer}
 use native.Mathlib.Omega.{arith}
 use Rattle.khiin.proofs.syllable.marking.place_between.Goals as goal
 
 pub overflow_add-result : goal.overflow_add-result
 overflow_add-result c =
-    omega (arith, no-longer (c.args.before.now ++ (bytesOf c.args.x ++ c.args.after.now)) c.args.out.now c.place_between.new.out _ c.place_between.ensures _ c.in-Done.is, c.well_formed.1.1.0.1)
+    omega (arith, no_longer (c.args.before.now ++ (bytes_of c.args.x ++ c.args.after.now)) c.args.out.now c.place_between.new.out _ c.place_between.ensures _ c.in-Done.is, c.well_formed.1.1.0.1)
 
 pub returns-in-Refused : goal.returns-in-Refused
 returns-in-Refused c =
-    no-room (c.args.before.now ++ (bytesOf c.args.x ++ c.args.after.now)) c.args.out.now c.place_between.new.out _ c.place_between.ensures _ c.in-Refused.is
+    no_room (c.args.before.now ++ (bytes_of c.args.x ++ c.args.after.now)) c.args.out.now c.place_between.new.out _ c.place_between.ensures _ c.in-Refused.is
 
 pub returns-in-Done : goal.returns-in-Done
 returns-in-Done c =
-    written (c.args.before.now ++ (bytesOf c.args.x ++ c.args.after.now)) c.args.out.now c.place_between.new.out _ c.place_between.ensures _ c.in-Done.is
+    written (c.args.before.now ++ (bytes_of c.args.x ++ c.args.after.now)) c.args.out.now c.place_between.new.out _ c.place_between.ensures _ c.in-Done.is

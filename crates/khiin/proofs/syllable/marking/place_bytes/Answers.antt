@@ -1,14 +1,14 @@
-use Rattle.khiin.proofs.syllable.marking.Sizes.{no-room, written, no-longer}
+use Rattle.khiin.proofs.syllable.marking.Sizes.{no_room, written, no_longer}
 use native.Mathlib.Omega.{arith}
 use Rattle.khiin.proofs.syllable.marking.place_bytes.Goals as goal
 
 pub overflow_add-result : goal.overflow_add-result
 overflow_add-result c =
-    omega (arith, no-longer c.args.s.now c.args.out.now c.place_bytes.new.out _ c.place_bytes.ensures _ c.in-Done.is, c.well_formed.1.0.1)
+    omega (arith, no_longer c.args.s.now c.args.out.now c.place_bytes.new.out _ c.place_bytes.ensures _ c.in-Done.is, c.well_formed.1.0.1)
 
 pub returns-in-Refused : goal.returns-in-Refused
 returns-in-Refused c =
-    no-room c.args.s.now c.args.out.now c.place_bytes.new.out _ c.place_bytes.ensures _ c.in-Refused.is
+    no_room c.args.s.now c.args.out.now c.place_bytes.new.out _ c.place_bytes.ensures _ c.in-Refused.is
 
 pub returns-in-Done : goal.returns-in-Done
 returns-in-Done c =

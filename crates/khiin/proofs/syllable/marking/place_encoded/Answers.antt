@@ -8,34 +8,34 @@ use borrow.Author.Tests.{le-leb}
 use lib.ListN.{length}
 use Rattle.ji.specs.Unicode.{unicode16}
 use Rattle.ji.specs.Utf8.{encode}
-use Rattle.ji.specs.Normalising.{exchangedCall}
-use Rattle.ji.specs.Reply.{pickReply, refused, placed, textReply}
+use Rattle.ji.specs.Normalising.{exchanged_call}
+use Rattle.ji.specs.Reply.{pick_reply, refused, placed, text_reply}
 use Rattle.ji.specs.declared.reply.Refusal.TheVariants.{TooLong}
 use Rattle.ji.specs.declared.reply.TextAnswer.{TextAnswer}
 use Rattle.khiin.specs.Syllable.{encoded}
-use Rattle.khiin.proofs.syllable.marking.Sizes.{no-room, written, no-longer}
+use Rattle.khiin.proofs.syllable.marking.Sizes.{no_room, written, no_longer}
 use Rattle.khiin.proofs.syllable.marking.place_encoded.Goals as goal
 
-short-text : (s before after : List ℕ) (a : TextAnswer) → length s ≤ 803 → textReply a after ≡ exchangedCall unicode16 0x0324 0x030D s before
-    → textReply a after ≡ placed 0 (encode (encoded unicode16 s)) before
+short_text : (s before after : List ℕ) (a : TextAnswer) → length s ≤ 803 → text_reply a after ≡ exchanged_call unicode16 0x0324 0x030D s before
+    → text_reply a after ≡ placed 0 (encode (encoded unicode16 s)) before
 unfolding encoded
-short-text s before after a few e =
-    e ∙ ap (λ (b : Bool). pickReply b (placed 0 (encode (encoded unicode16 s)) before) (refused TooLong before)) (le-leb (length s) 1024 (omega arith))
+short_text s before after a few e =
+    e ∙ ap (λ (b : Bool). pick_reply b (placed 0 (encode (encoded unicode16 s)) before) (refused TooLong before)) (le-leb (length s) 1024 (omega arith))
 
 pub overflow_add-result : goal.overflow_add-result
 overflow_add-result c =
     let a = c.args in
-    let e = short-text a.s.now a.out.now c.place_exchanged.new.out c.place_exchanged.result c.requires c.place_exchanged.ensures in
-    omega (arith, no-longer (encode (encoded unicode16 a.s.now)) a.out.now c.place_exchanged.new.out _ e _ c.in-Done.is, c.well_formed.1.0.1)
+    let e = short_text a.s.now a.out.now c.place_exchanged.new.out c.place_exchanged.result c.requires c.place_exchanged.ensures in
+    omega (arith, no_longer (encode (encoded unicode16 a.s.now)) a.out.now c.place_exchanged.new.out _ e _ c.in-Done.is, c.well_formed.1.0.1)
 
 pub returns-in-Refused : goal.returns-in-Refused
 returns-in-Refused c =
     let a = c.args in
-    let e = short-text a.s.now a.out.now c.place_exchanged.new.out c.place_exchanged.result c.requires c.place_exchanged.ensures in
-    no-room (encode (encoded unicode16 a.s.now)) a.out.now c.place_exchanged.new.out _ e _ c.in-Refused.is
+    let e = short_text a.s.now a.out.now c.place_exchanged.new.out c.place_exchanged.result c.requires c.place_exchanged.ensures in
+    no_room (encode (encoded unicode16 a.s.now)) a.out.now c.place_exchanged.new.out _ e _ c.in-Refused.is
 
 pub returns-in-Done : goal.returns-in-Done
 returns-in-Done c =
     let a = c.args in
-    let e = short-text a.s.now a.out.now c.place_exchanged.new.out c.place_exchanged.result c.requires c.place_exchanged.ensures in
+    let e = short_text a.s.now a.out.now c.place_exchanged.new.out c.place_exchanged.result c.requires c.place_exchanged.ensures in
     written (encode (encoded unicode16 a.s.now)) a.out.now c.place_exchanged.new.out _ e _ c.in-Done.is

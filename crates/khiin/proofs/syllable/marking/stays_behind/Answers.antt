@@ -5,19 +5,19 @@ use Prim.Native.Nat.{ℕ}
 use borrow.Author.Tests.{lt-ltb}
 use Rattle.ji.specs.Text.{points}
 use Rattle.ji.specs.Unicode.{listed}
-use Rattle.ji.proofs.Bools.{false-true, or-yes}
-use Rattle.khiin.specs.Compose.{staysBehind}
+use Rattle.ji.proofs.Bools.{false_true, or_yes}
+use Rattle.khiin.specs.Compose.{stays_behind}
 use Rattle.khiin.proofs.syllable.marking.stays_behind.Goals as goal
 
-at : (before k : ℕ) → staysBehind before k ≡ true → (x : ℕ) → x ≡ k → staysBehind before x ≡ true
-at before k h x e = ap (staysBehind before) e ∙ h
+at : (before k : ℕ) → stays_behind before k ≡ true → (x : ℕ) → x ≡ k → stays_behind before x ≡ true
+at before k h x e = ap (stays_behind before) e ∙ h
 
-dots : (before : ℕ) → listed (points "oO") before ≡ true → staysBehind before 0x0324 ≡ true
+dots : (before : ℕ) → listed (points "oO") before ≡ true → stays_behind before 0x0324 ≡ true
 unfolding listed
 dots before e = e
 
 pub returns-then-x-lt192 : goal.returns-then-x-lt192
-returns-then-x-lt192 c = λ e. or-yes _ _ (or-yes _ _ (lt-ltb _ _ c.if-x-lt192.true))
+returns-then-x-lt192 c = λ e. or_yes _ _ (or_yes _ _ (lt-ltb _ _ c.if-x-lt192.true))
 
 pub returns-in-804 : goal.returns-in-804
 returns-in-804 c =
@@ -33,4 +33,4 @@ returns-in-856 c =
     ⊎_elim (at a.before 0x0358 refl a.x) (⊎_elim (at a.before 0x1D3A refl a.x) (at a.before 0x207F refl a.x)) c.in-856.is
 
 pub returns-in_default : goal.returns-in_default
-returns-in_default c = λ e. absurd (false-true e)
+returns-in_default c = λ e. absurd (false_true e)
