@@ -23,7 +23,7 @@ QUOTED = re.compile(r'"(?:[^"\\\n]|\\.)*"|(?<![^\s(){}.;,@"«»])--[^\n]*')
 SPAN = re.compile(r"`[^`\n]*`")
 USE = re.compile(r"\buse ([^\s;{]+)\{([^}]*)\}")
 DECLARED = re.compile(r'(?m)^ *(?:(?:abbrev|opaque|unfoldable|pub|let|record|data|in|mutual) +)*(%s)(?: [^=\n]*?)? :(?= |$)' % r'[^\s(){}.;,@"«»`:=|]+')
-BOUND = re.compile(r'[({]((?:%s )+):(?= )|λ ((?:%s ?)+)\.' % (r'[^\s(){}.;,@"«»`:=|]+', r'[^\s(){}.;,@"«»`:=|]+'))
+BOUND = re.compile(r"[({]((?:%s )+):(?= )|λ ((?:%s ?)+)\.|\blet (%s) =|\bas (%s)" % ((r'[^\s(){}.;,@"«»`:=|]+',) * 4))
 GOAL = re.compile(r"\bgoal\.(?:at\.)?(%s)" % NAME)
 # What is written by hand for one function, beside labels that the check makes.
 BY_FUNCTION = ("Answers.antt", "Invariants.antt", "Proof.antt")
@@ -64,9 +64,8 @@ class Names:
             if path.suffix == ".antt":
                 text = QUOTED.sub("", path.read_text())
                 self.declared |= {m[1] for m in DECLARED.finditer(text)}
-                if path.name not in BY_FUNCTION:
-                    for m in BOUND.finditer(text):
-                        self.declared |= set((m[1] or m[2]).split())
+                for m in BOUND.finditer(text):
+                    self.declared |= set((m[1] or m[2] or m[3] or m[4]).split())
 
     def kept(self, path, text):
         """The names that stay in a file: those of libraries, and labels."""
@@ -91,9 +90,9 @@ def turn_words(text, names, kept, by_function, found):
             if not in_path:
                 found[word].add(word)
             return word
-        if bare not in names.declared and not re.fullmatch(r"[a-z]\w*", bare):
+        if by_function and bare not in names.declared and not re.fullmatch(r"[a-z]\w*", bare):
             return word
-        if by_function and behind_dot and "-" in bare:
+        if behind_dot and "-" in bare and (by_function or bare not in names.declared):
             return word
         new = respelled(bare) + word[len(bare) :]
         if not in_path:

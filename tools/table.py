@@ -184,15 +184,15 @@ use mathlib.Core.List.{{List, [], ◌∷◌}}
 use Prim.Native.Nat.{{ℕ}}
 """
     text += declared_rows(
-        "mappingNumbers",
+        "mapping_numbers",
         "by code point: the first code point of its mapping times 65536, plus the second, if there is one",
         rows["mappings"],
         packed,
     )
-    text += declared_rows("classNumbers", "by code point: its combining class", rows["classes"], str)
-    text += declared_rows("displacementNumbers", "by mark: its displacement, where its candidates begin", rows["displacements"], hexa)
+    text += declared_rows("class_numbers", "by code point: its combining class", rows["classes"], str)
+    text += declared_rows("displacement_numbers", "by mark: its displacement, where its candidates begin", rows["displacements"], hexa)
     text += declared_rows(
-        "candidateNumbers",
+        "candidate_numbers",
         "by displacement of b plus remainder of a: the one code point that can be the composite of a and b",
         rows["candidates"],
         hexa,
@@ -228,9 +228,9 @@ def source_file(rows, modulus):
     text = f"""// {NOTE}
 // The table in rows of {ROW} numbers: a constant array is copied where it is read, so it is kept short.
 ghost use Rattle.std.specs.Prelude.{{◌≡◌}};
-ghost use Rattle.ucd.specs.Table.{{mapping, combiningClass, composite}};
+ghost use Rattle.ucd.specs.Table.{{mapping, combining_class, composite}};
 ghost use Rattle.ucd.specs.Unicode16.{{unicode16}};
-ghost use Rattle.ucd.specs.Answer.{{unpacked, verified}};
+ghost use Rattle.ucd.specs.Answer.{{unpacked_mapping, verified}};
 """
     text += constants("MAPPINGS", "The mappings of", "u32", rows["mappings"], packed)
     text += constants("CLASSES", "The combining classes of", "u8", rows["classes"], str)
@@ -239,7 +239,7 @@ ghost use Rattle.ucd.specs.Answer.{{unpacked, verified}};
     return text + f"""
 // The mapping of c as one number: the first code point times 65536, plus the second, if there is one; 0 for none.
 pub(crate) fn mapping_number(c: u16) -> u32
-    ensures {{ unpacked result ≡ mapping unicode16 c }}
+    ensures {{ unpacked_mapping result ≡ mapping unicode16 c }}
 {{
     let at = (c % {ROW}) as usize;
     match c / {ROW} {{
@@ -249,7 +249,7 @@ pub(crate) fn mapping_number(c: u16) -> u32
 
 // The combining class of c.
 pub(crate) fn class_number(c: u16) -> u8
-    ensures {{ result ≡ combiningClass unicode16 c }}
+    ensures {{ result ≡ combining_class unicode16 c }}
 {{
     let at = (c % {ROW}) as usize;
     match c / {ROW} {{
@@ -285,12 +285,12 @@ def lookup_answers(function, law, rows, numbers):
 -- `ucd::table::{function}` meets its contract: each arm reads a row of the quick form, and the last arm none. Assumes nothing.
 use Rattle.std.proofs.Common.{{rules}}
 use Rattle.ucd.proofs.RowData.{{{numbers}}}
-use Rattle.ucd.proofs.Rows.{{{law}-arm, {law}-rest}}
+use Rattle.ucd.proofs.Rows.{{{law}_arm, {law}_rest}}
 use Rattle.ucd.proofs.table.{function}.Goals as goal
 """
     for number, _ in rows:
-        text += answer(f"returns-in-{number}", f" {law}-arm c.args.c {number} c.in-{number}.is", numbers)
-    return text + answer("returns-in_default", f" {law}-rest c.args.c (search rules)", numbers)
+        text += answer(f"returns-in-{number}", f" {law}_arm c.args.c {number} c.in-{number}.is", numbers)
+    return text + answer("returns-in_default", f" {law}_rest c.args.c (search rules)", numbers)
 
 
 def candidate_answers(marks, candidates):
@@ -300,32 +300,32 @@ def candidate_answers(marks, candidates):
     text = f"""-- {NOTE}
 -- `ucd::table::candidate` meets its contract: the first match reads the displacement of b, and the second the candidate. Assumes nothing.
 use Rattle.std.proofs.Common.{{◌≡◌, ◌∙◌, rules}}
-use Rattle.ucd.proofs.RowData.{{displacementNumbers, candidateNumbers}}
-use Rattle.ucd.proofs.RowLaw.{{numberAt}}
-use Rattle.ucd.proofs.Rows.{{displacement-arm, displacement-rest, candidate-arm, candidate-rest}}
+use Rattle.ucd.proofs.RowData.{{displacement_numbers, candidate_numbers}}
+use Rattle.ucd.proofs.RowLaw.{{number_at}}
+use Rattle.ucd.proofs.Rows.{{displacement_arm, displacement_rest, candidate_arm, candidate_rest}}
 use Rattle.ucd.proofs.table.candidate.Goals as goal
 use Rattle.ucd.proofs.table.candidate.Goals.{{Joined-b-div32, {", ".join(arms)}, in_default}}
 
 -- the first match reads the displacement of b
-displaced : (c : Joined-b-div32) → c.match-b-div32.displacement ≡ numberAt displacementNumbers c.args.b
-unfolding displacementNumbers
+displaced : (c : Joined-b-div32) → c.match-b-div32.displacement ≡ number_at displacement_numbers c.args.b
+unfolding displacement_numbers
 displaced c =
     elim c.match-b-div32.branch [
 """
     for arm, (number, _) in zip(arms, marks):
-        text += f"      | {arm} w ↦ w.displacement-is ∙ displacement-arm c.args.b {number} w.{arm}.is\n"
-    text += "      | in_default w ↦ w.displacement-is ∙ displacement-rest c.args.b (search rules)\n    ]\n"
+        text += f"      | {arm} w ↦ w.displacement-is ∙ displacement_arm c.args.b {number} w.{arm}.is\n"
+    text += "      | in_default w ↦ w.displacement-is ∙ displacement_rest c.args.b (search rules)\n    ]\n"
     taken = {number for number, _ in marks}
     for number, _ in candidates:
         arm = f"in-{number}-2" if number in taken else f"in-{number}"
-        text += candidate_answer(f"returns-{arm}", "candidate-arm", f"{number} c.{arm}.is")
-    return text + candidate_answer("returns-in_default-2", "candidate-rest", "(search rules)")
+        text += candidate_answer(f"returns-{arm}", "candidate_arm", f"{number} c.{arm}.is")
+    return text + candidate_answer("returns-in_default-2", "candidate_rest", "(search rules)")
 
 
 def candidate_answer(goal, law, end):
     """One of them, at the displacement that the first match read."""
     displaced = f"c.match-b-div32.displacement (displaced (goal.at.{goal} c).Joined-b-div32)"
-    return answer(goal, f"\n    {law} c.args.a c.args.b {displaced} {end}", "candidateNumbers")
+    return answer(goal, f"\n    {law} c.args.a c.args.b {displaced} {end}", "candidate_numbers")
 
 
 def generated(folder):
@@ -342,8 +342,8 @@ def generated(folder):
         "specs/Unicode16.antt": table_file(mappings, classes, exclusions),
         "src/table.rt": source_file(rows, modulus),
         "proofs/RowData.antt": data_file(rows, modulus),
-        "proofs/table/mapping_number/Answers.antt": lookup_answers("mapping_number", "mapping", rows["mappings"], "mappingNumbers"),
-        "proofs/table/class_number/Answers.antt": lookup_answers("class_number", "class", rows["classes"], "classNumbers"),
+        "proofs/table/mapping_number/Answers.antt": lookup_answers("mapping_number", "said", rows["mappings"], "mapping_numbers"),
+        "proofs/table/class_number/Answers.antt": lookup_answers("class_number", "class", rows["classes"], "class_numbers"),
         "proofs/table/candidate/Answers.antt": candidate_answers(rows["displacements"], rows["candidates"]),
     }
 

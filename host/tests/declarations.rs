@@ -544,16 +544,16 @@ fn another_contract_is_noticed() {
     let exports = read(RATTLE);
     let right = rattle_contracts(&exports, EXPORTED).unwrap();
     let other = [
-        ("ensures { replyOf result out.new ≡ fromRawCall keys.now out.old }", ""),
-        ("fromRawCall keys.now out.old", "fromRawCall keys.now out.new"),
-        ("keyingNumbered entry.now kind position", "keyingNumbered entry.now position kind"),
+        ("ensures { reply_of result out.new ≡ from_raw_call keys.now out.old }", ""),
+        ("from_raw_call keys.now out.old", "from_raw_call keys.now out.new"),
+        ("keying_numbered entry.now kind position", "keying_numbered entry.now position kind"),
         ("rf_from_raw(keys: &[u8], out: &mut [u8])", "rf_from_raw(out: &mut [u8], keys: &[u8])"),
     ];
     for (from, to) in other {
         let found = rattle_contracts(&edited(&exports, from, to), EXPORTED).unwrap();
         assert_ne!(found, right, "{to:?} is passed over");
     }
-    let elsewhere = edited(&exports, "ji.specs.Lomaji.Strip.{stripCall}", "ji.specs.Nfd.{stripCall}");
+    let elsewhere = edited(&exports, "ji.specs.Lomaji.Strip.{strip_call}", "ji.specs.Nfd.{strip_call}");
     let known = rattle_imports(&exports).unwrap();
     assert!(!rattle_imports(&elsewhere).unwrap().is_subset(&known));
     assert!(rattle_contracts(&exports, PUBLIC).is_err());

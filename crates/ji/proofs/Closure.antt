@@ -32,3 +32,6 @@ nfc_inside_16 = nfc_inside unicode16 unicode16_good
 
 pub nfd_nfc_16 : (s : List ℕ) → nfd unicode16 (nfc unicode16 s) ≡ nfd unicode16 s
 nfd_nfc_16 = laws.nfd_nfc unicode16 unicode16_facts
+
+pub nfc_nfc_16 : (s : List ℕ) → nfc unicode16 (nfc unicode16 s) ≡ nfc unicode16 s
+nfc_nfc_16 = laws.nfc_nfc unicode16 unicode16_facts

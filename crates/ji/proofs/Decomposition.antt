@@ -68,6 +68,10 @@ module _ (t : Table) where
     full_is_atoms [] = rw full_nil tt
     full_is_atoms (c ∷ s) = rw (full_cons c s) (all_append (Atom t) (full t (c ∷ [])) (full t s) (F.atoms c) (full_is_atoms s))
 
+    -- decomposing again changes nothing
+    pub full_full : (s : List ℕ) → full t (full t s) ≡ full t s
+    full_full s = full_atoms (full t s) (full_is_atoms s)
+
     -- a composite decomposes as the two that it is made of
     pub full_composite : (a b p : ℕ) → composite t a b ≡ some p → full t (p ∷ []) ≡ full t (a ∷ b ∷ [])
     unfolding full pass

@@ -1,4 +1,4 @@
--- What `unicode::points` gives: the code points, where the buffer has room for as many as there are bytes, or why the text is refused.
+-- What `unicode::code_points` gives: the code points, where the buffer has room for as many as there are bytes, or why the text is refused.
 use mathlib.Core.Path.{◌≡◌, refl, sym, ap, ◌∙◌}
 use mathlib.Core.List.{List, [], ◌∷◌, ◌++◌}
 use Prim.Native.Nat.{ℕ, ◌≤◌}

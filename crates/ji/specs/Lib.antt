@@ -1,5 +1,6 @@
 pub mod Text
 pub mod Written
+pub mod Replacing
 pub mod Utf8
 pub mod Unicode
 pub mod Nfd

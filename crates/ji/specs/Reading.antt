@@ -1,5 +1,5 @@
 -- What the reader of a text does with its buffer of code points: the text is checked while it is read.
-use Rattle.std.specs.Prelude.{◌≡◌, Bool, true, List, [], ◌∷◌, length, ℕ, leb}
+use Rattle.std.specs.Prelude.{◌≡◌, Bool, true, false, List, [], ◌∷◌, length, ℕ, ◌*◌, ◌/◌, ◌≤◌, ◌<◌, leb}
 use Rattle.ucd.specs.Table.{Table, pick_text}
 use Rattle.ji.specs.Written.{Written}
 use Rattle.ji.specs.Utf8.{decode}
@@ -8,7 +8,7 @@ use Rattle.ji.specs.Nfd.{nfd}
 use Rattle.ji.specs.Reply.{Reply, refused, over, placed, Checked, good, bad, check_points, check_text}
 use Rattle.std.proofs.Math.Option.{Option, none, some}
 use Rattle.ji.specs.declared.reply.Refusal.{Refusal}
-use Rattle.ji.specs.declared.reply.Refusal.TheVariants.{IllFormed, OutsideTable}
+use Rattle.ji.specs.declared.reply.Refusal.TheVariants.{IllFormed, OutsideTable, NoRoom}
 use Rattle.ji.specs.declared.unicode.Spread.{Spread}
 use Rattle.ji.specs.declared.unicode.Spread.TheVariants.{One, Two, Three}
 use Rattle.ji.specs.declared.unicode.Decoded.{Decoded}
@@ -31,7 +31,13 @@ Reading t decomposed s before after (Points n) = (u : List ℕ) × (check_points
 Reading t decomposed s before after (Refused why) =
     (check_points t (decode s) ≡ bad why) × Written before after (length (spread t decomposed (accepted t s))) (spread t decomposed (accepted t s))
 
--- the same without a buffer: how many code points there are, all of them accepted
+-- the same for a text as it is, of any length; one that the buffer might not hold is not read
+abbrev pub PointsReading : Table → List ℕ → List ℕ → List ℕ → Decoded → Type 0
+PointsReading t s before after answer =
+    (length s ≤ length before / 3 * 2 → Reading t false s before after answer)
+    × (length before / 3 * 2 < length s → (answer ≡ Refused NoRoom) × (after ≡ before))
+
+-- reading without a buffer: how many code points there are, all of them accepted
 abbrev pub Counting : Table → List ℕ → Decoded → Type 0
 Counting t s (Points n) = (u : List ℕ) × (check_points t (decode s) ≡ good u) × (accepted t s ≡ u) × (n.0 ≡ length u)
 Counting t s (Refused why) = check_points t (decode s) ≡ bad why

@@ -4,12 +4,12 @@ ghost use Rattle.std.proofs.Math.Option.{none, some};
 ghost use Rattle.ucd.specs.Unicode16.{unicode16};
 ghost use Rattle.ji.specs.Utf8.{encode};
 ghost use Rattle.ji.specs.Reply.{placed, text_call, text_reply};
-ghost use Rattle.ji.specs.Normalising.{exchanged, exchanged_call};
+ghost use Rattle.ji.specs.Normalising.{exchanged, exchanged_call, Normalising};
 ghost use Rattle.ji.specs.Nfc.{pick_done, reversed, absorb, compose, nfc};
 
 use crate::reply::{Refusal, TextAnswer};
 use crate::text::replace_pair;
-use crate::unicode::Decoded;
+use crate::unicode::{CharLen, Decoded};
 use crate::{nfd, reply, unicode};
 
 // R1 and R2: c and the last starter of s give way to their composite, in the starter's place, unless c is blocked from it or they have none.
@@ -62,6 +62,26 @@ pub(crate) fn compose(s: &mut [u16]) -> usize
         n += 1;
     }
     n
+}
+
+// What normalising answers: how many code points the NFC has, or that the buffer might not hold it.
+#[derive(Drop)]
+pub enum Normalised {
+    Done(CharLen),
+    NoRoom,
+}
+
+// NFC of the code points `s`, at the front of `out`. The buffer has to have three places for each, where their NFD is made.
+pub fn normalise(s: &[u16], out: &mut [u16]) -> Normalised
+    ensures { Normalising unicode16 s.now out.old out.new result }
+{
+    if out.len() / 3 < s.len() {
+        return Normalised::NoRoom;
+    }
+    let n = unicode::decompose(s, out);
+    nfd::order(&mut out[0..n]);
+    let m = compose(&mut out[0..n]);
+    Normalised::Done(CharLen(m))
 }
 
 // NFC of the code points `s`, made in `work`, with each `a` `b` in it exchanged, in `out`.

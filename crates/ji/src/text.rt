@@ -1,7 +1,11 @@
-// Texts of code points: letters in lower case, whether a text begins with a pattern, and replacing in place.
+// Texts of code points: letters in lower case, whether a text begins with a pattern, and replace-all.
 ghost use Rattle.std.specs.Prelude.{◌≡◌, [], ◌∷◌, ◌+◌, ◌≤◌, ◌<◌, leb, length, drop};
 ghost use Rattle.std.proofs.Math.Seq.{paste};
 ghost use Rattle.ji.specs.Text.{lower as lower_of, begins, replace_all};
+ghost use Rattle.ji.specs.Written.{Written};
+ghost use Rattle.ji.specs.Replacing.{Replacing};
+
+use crate::unicode::CharLen;
 
 // An ASCII letter in lower case, and any other code point as it is.
 pub fn lower(x: u16) -> u16
@@ -27,6 +31,14 @@ pub fn lower_byte(x: u8) -> u8
         return x;
     }
     x + 32
+}
+
+// What replacing answers: how many code points were written, or why none was.
+#[derive(Drop)]
+pub enum Replaced {
+    Done(CharLen),
+    NoRoom,
+    NoPattern,
 }
 
 // Whether `s` begins with `pattern` at `at`.
@@ -58,6 +70,63 @@ pub(crate) fn put(src: &[u16], out: &mut [u16], at: usize) -> usize
         k += 1;
     }
     at + k
+}
+
+// Writes `src`, with each occurrence of `pattern` replaced by `by`, to the front of `out`, and returns its length.
+pub(crate) fn replace(src: &[u16], pattern: &[u16], by: &[u16], out: &mut [u16]) -> usize
+    requires { (0 < length pattern.now) × (length (replace_all pattern.now by.now src.now) ≤ length out.old) }
+    ensures { Written out.old out.new result (replace_all pattern.now by.now src.now) }
+{
+    let mut i: usize = 0;
+    let mut j: usize = 0;
+    while i < src.len() {
+        if begins_at(src, i, pattern) {
+            j = put(by, out, j);
+            i += pattern.len();
+        } else {
+            out[j] = src[i];
+            i += 1;
+            j += 1;
+        }
+    }
+    j
+}
+
+// Whether `s`, with each occurrence of `pattern` replaced by `by`, has at most `room` code points. It counts down what is left of the
+// room, and stops at the first piece that does not go in, so that a length that no number holds is refused too.
+fn fits(s: &[u16], pattern: &[u16], by: &[u16], room: usize) -> bool
+    requires { 0 < length pattern.now }
+    ensures { result ≡ leb (length (replace_all pattern.now by.now s.now)) room }
+{
+    let mut i: usize = 0;
+    let mut left = room;
+    while i < s.len() {
+        let mut width: usize = 1;
+        let mut size: usize = 1;
+        if begins_at(s, i, pattern) {
+            width = pattern.len();
+            size = by.len();
+        }
+        if left < size {
+            return false;
+        }
+        left -= size;
+        i += width;
+    }
+    true
+}
+
+// `s` with each occurrence of `pattern` replaced by `by`, in `out`.
+pub fn replace_all(s: &[u16], pattern: &[u16], by: &[u16], out: &mut [u16]) -> Replaced
+    ensures { Replacing pattern.now by.now s.now out.old out.new result }
+{
+    if pattern.len() == 0 {
+        return Replaced::NoPattern;
+    }
+    if fits(s, pattern, by, out.len()) {
+        return Replaced::Done(CharLen(replace(s, pattern, by, out)));
+    }
+    Replaced::NoRoom
 }
 
 // Replaces each occurrence of `pattern` by `by`, which is as long, so that the rest of the text stays where it is.

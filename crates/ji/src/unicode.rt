@@ -10,7 +10,7 @@ ghost use Rattle.ji.specs.Text.{all_ascii};
 ghost use Rattle.ji.specs.Utf8.{decode, last_start, last_point};
 ghost use Rattle.ji.specs.Written.{Written};
 ghost use Rattle.ji.specs.Reply.{placed, check_points, check_within, verdict_of};
-ghost use Rattle.ji.specs.Reading.{spread_text, fault_in, Reading, Counting, points_reply, points_call};
+ghost use Rattle.ji.specs.Reading.{spread_text, fault_in, Reading, PointsReading, Counting, points_reply, points_call};
 
 use crate::reply::Refusal;
 use crate::{text, utf8};
@@ -179,6 +179,17 @@ pub(crate) fn read_points(text: &[u8], out: &mut [u16]) -> Decoded
     decode(text, false, out)
 }
 
+// The code points of `text`, as they are, at the front of `out`, which has to have three places for every two bytes. A text that is refused leaves its
+// code points before the fault there: `code_points` writes none, and asks for no more room than the code points take.
+pub fn points(text: &[u8], out: &mut [u16]) -> Decoded
+    ensures { PointsReading unicode16 text.now out.old out.new result }
+{
+    if out.len() / 3 * 2 < text.len() {
+        return Decoded::Refused(Refusal::NoRoom);
+    }
+    read_points(text, out)
+}
+
 // How many code points the bytes `s` have, or which of the two refusals they get.
 fn count_points(s: &[u8]) -> Decoded
     ensures { Counting unicode16 s.now result }
@@ -246,8 +257,8 @@ fn long_points(text: &[u8], out: &mut [u16]) -> Decoded
     }
 }
 
-// The code points of `text`, as they are, in `out`.
-pub fn points(text: &[u8], out: &mut [u16]) -> Decoded
+// The code points of `text`, as they are, in `out`. A refusal writes nothing.
+pub fn code_points(text: &[u8], out: &mut [u16]) -> Decoded
     ensures { points_reply result out.new ≡ points_call unicode16 text.now out.old }
 {
     if is_ascii(text) {

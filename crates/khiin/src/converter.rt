@@ -435,7 +435,7 @@ fn compose_in(
     requires { (key ≤ 0x7F) × (n < length bytes.old) × (n ≤ length points.old) × (n + 2 < length points.old) × RestIn bytes.old n }
     ensures { (h : RestIn bytes.old n) → text_reply result out.new ≡ placed 0 (encode (composed_of unicode16 k key tone h.rest)) out.old }
 {
-    match unicode::points(&bytes[0..n], points) {
+    match unicode::code_points(&bytes[0..n], points) {
         Decoded::Refused(why) => TextAnswer::Refused(why),
         Decoded::Points(count) => {
             let m = count.0;

@@ -194,7 +194,7 @@ fn candidate_of(
 {
     let khin = khin::khin_of(stripped);
     let rest = khin::strip_khin(stripped);
-    match unicode::points(rest, points) {
+    match unicode::code_points(rest, points) {
         Decoded::Refused(why) => Recorded::Refused(why),
         Decoded::Points(len) => {
             let n = len.0;

@@ -1,9 +1,13 @@
 -- Blocks of lines: each has no more lines than are left, and starts where the one before it ends.
-use Rattle.std.proofs.Common.{Option, Some, None, IfSome, option_map, ◌≡◌, ℕ, ◌+◌, ◌-◌, ◌≤◌, List, [], ◌++◌, length, take, drop, sym, ap, ◌∙◌, arith, length-drop, take-append-drop, take-add, append-nil}
+use Rattle.std.proofs.Common.{Option, Some, None, IfSome, option_map, ◌≡◌, ℕ, ◌+◌, ◌-◌, ◌≤◌, List, [], ◌++◌, length, take, drop, sym, ap, ◌∙◌, arith, length-append, length-drop, take-append-drop, take-add, append-nil}
 use Rattle.ji.specs.Unicode.{unicode16}
+use Rattle.ji.specs.Reply.{over}
 use Rattle.khiin_entries.specs.Listing.{listing, together, fitting, going_in, shown}
 use Rattle.khiin_entries.proofs.listing.Fitting.{together_append, fit_most, going_count}
 use Rattle.lister.proofs.Short.{short_drop, listing_short, none_left}
+
+pub block_inside : (text before after : List ℕ) (len : ℕ) → len ≡ length text → after ≡ over text before → length after ≡ length before → len ≤ length after
+block_inside text before after len l is same = omega (arith, ap length is, length-append text (drop (length text) before), length-drop (length text) before)
 
 pub next_inside : (entry : List ℕ) (from room next : ℕ) → next ≡ from + length (shown unicode16 entry from room) → (from ≤ next) × (next ≤ from + (length (listing unicode16 entry) - from))
 unfolding shown

@@ -7,11 +7,12 @@ use native.Mathlib.Omega.{arith}
 use lib.Dec.{eqb}
 use lib.ListN.{length, get_or, take, drop, length-append, length-drop, length-replicate, get_or-replicate, take-append-drop}
 use lib.Seq.{ext_get_or, take_all, take-append_seam, drop-append_seam}
-use borrow.Author.Tests.{eq-eqb, eqb-true}
+use borrow.Author.Tests.{eq-eqb, eqb-true, leb-true}
 use Rattle.ji.specs.Reply as ji
 use Rattle.robinflint.specs.declared.reply.Reply.{Reply}
 use Rattle.robinflint.specs.Reply.{reply_of}
 use Rattle.replay.specs.declared.record.Header.{Header}
+use Rattle.replay.specs.Record.{known, replayable}
 use Rattle.replay.specs.Calls.{answer_of}
 use Rattle.replay.specs.Replay.{Agrees}
 use Rattle.replay.specs.Expected.{Says, untouched, written, said, same_numbers, AsSaid}
@@ -116,6 +117,26 @@ rest_decides h wanted r buffer b n same fits front s =
       (λ e. whole h wanted r buffer (record { count = n; numbers = same; room = fits; front = front; rest = says.0 e })),
       (λ p. says.1 (parts h wanted r buffer p).rest),
     )
+
+-- what `is_replayable` tests of the lengths
+pub record Room (h : Header) : Type 0 where
+  pub input : h.input ≤ 3072
+  pub other : h.other ≤ 3072
+  pub lent : h.lent ≤ 3072
+  pub wanted : h.wanted ≤ 3072
+
+pub room : (h : Header) → replayable h ≡ true → Room h
+room h e =
+    let s4 = split _ _ e in
+    let s3 = split _ _ s4.0 in
+    let s2 = split _ _ s3.0 in
+    let s1 = split (known h.call) _ s2.0 in
+    record {
+      input = leb-true h.input 3072 s1.1;
+      other = leb-true h.other 3072 s2.1;
+      lent = leb-true h.lent 3072 s3.1;
+      wanted = leb-true h.wanted 3072 s4.1;
+    }
 
 -- the verdict on the parts of a body and on the buffer as it is, as one on the body
 pub agrees_by : (h : Header) (body other wanted buffer : List ℕ) (r : ji.Reply) (b : Bool) → other ≡ take h.other (drop h.input body)

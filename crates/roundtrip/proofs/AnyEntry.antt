@@ -33,26 +33,26 @@ module _ (bytes text : List ℕ) (kind position : ℕ) (buffer : List ℕ) where
   abbrev output : List ℕ
   output = encode (get_or texts position [])
 
-  output_is : keying_for kind text position ≡ output
+  pub output_is : keying_for kind text position ≡ output
   unfolding list_for
   output_is = map_at texts position
 
-  count_is : length (list_for kind text) ≡ length texts
+  pub count_same : length (list_for kind text) ≡ length texts
   unfolding list_for
-  count_is = length-map texts encode
+  count_same = length-map texts encode
 
   -- a call that nothing refuses
   pub good_answers : check_entry unicode16 bytes ≡ good text → kind ≤ 2 → position < length (list_for kind text) → length (keying_for kind text position) ≤ length buffer
       → keying_numbered bytes kind position buffer ≡ given kind text position buffer
   unfolding keying_call
   good_answers e known inside fits =
-      let n : position < length texts = rw (← count_is) inside in
+      let n : position < length texts = rw (← count_same) inside in
       let k : length output ≤ length buffer = rw (← output_is) fits in
       ap (λ (b : Bool). pick_reply b (keying_call unicode16 bytes (kind_of kind) position buffer) (refused Argument buffer)) (le-leb kind 2 known)
       ∙ ap (λ (c : Checked). keying_of unicode16 (kind_of kind) c position buffer) e
       ∙ ap (λ (b : Bool). pick_reply b (placed_keying unicode16 (length texts) output buffer) (refused Position buffer)) (lt-ltb position (length texts) n)
       ∙ ap (λ (b : Bool). pick_reply b (keyed unicode16 (length texts) output buffer) (refused NoRoom buffer)) (le-leb (length output) (length buffer) k)
-      ∙ ap₂ (λ (c : ℕ) (u : List ℕ). keyed unicode16 c u buffer) (sym count_is) (sym output_is)
+      ∙ ap₂ (λ (c : ℕ) (u : List ℕ). keyed unicode16 c u buffer) (sym count_same) (sym output_is)
 
   -- a call that is not refused
   good_answered : check_entry unicode16 bytes ≡ good text → kind ≤ 2 → (keying_of unicode16 (kind_of kind) (good text) position buffer).code ≡ 0
@@ -60,7 +60,7 @@ module _ (bytes text : List ℕ) (kind position : ℕ) (buffer : List ℕ) where
   good_answered e known h =
       let (there, placed) = taken (ltb position (length texts)) (placed_keying unicode16 (length texts) output buffer) Position buffer h in
       let (room, done) = taken (leb (length output) (length buffer)) (keyed unicode16 (length texts) output buffer) NoRoom buffer placed in
-      let inside : position < length (list_for kind text) = rw count_is (ltb-true position (length texts) there) in
+      let inside : position < length (list_for kind text) = rw count_same (ltb-true position (length texts) there) in
       let fits : length (keying_for kind text position) ≤ length buffer = rw output_is (leb-true (length output) (length buffer) room) in
       record { text = text; known = known; checked = e; inside = inside; fits = fits; gives = good_answers e known inside fits }
 

@@ -46,9 +46,9 @@ record Parted (keying : List ℕ) (ss : List WellFormed) : Type 0 where
 part : (ss : List WellFormed) (t : List ℕ) → Memᴰ t (product (map toned ss)) → Parted t ss
 part [] t m = record { pieces = []; is = Memᴰ.eq_of_singleton m; paired = tt }
 part (s ∷ ss) t m =
-    let (p, rest, p-in, is, rest_in) = each_in t (toned s) (product (map toned ss)) m in
+    let (p, rest, p_in, is, rest_in) = each_in t (toned s) (product (map toned ss)) m in
     let q = part ss rest rest_in in
-    record { pieces = p ∷ q.pieces; is = is ∙ ap (λ (u : List ℕ). p ++ u) q.is; paired = (piece_of s p p-in, q.paired) }
+    record { pieces = p ∷ q.pieces; is = is ∙ ap (λ (u : List ℕ). p ++ u) q.is; paired = (piece_of s p p_in, q.paired) }
 
 parted : (ss : List WellFormed) → Few ss → (position : ℕ) → Numbered ss position → Parted (keying_at 1 ss position) ss
 parted ss f position n =

@@ -6,7 +6,7 @@ use Prim.Native.Nat.{ℕ, suc, ◌+◌, ◌*◌, ◌≤◌, ◌<◌}
 use native.Mathlib.Omega.{arith}
 use borrow.Author.Tests.{le-leb, ne_eqb}
 use lib.Dec.{leb}
-use lib.ListN.{length, length-append, length-map}
+use lib.ListN.{length, get_or, length-append, length-map}
 use Rattle.ji.specs.Unicode.{All, unicode16, member, members}
 use Rattle.ji.specs.Utf8.{encode}
 use Rattle.ji.specs.Reply.{good, bad, pick_checked}
@@ -17,13 +17,13 @@ use Rattle.ji.proofs.unicode.Ascii.{ascii_member}
 use Rattle.ji.proofs.unicode.Bytes.{bytes_one, encode_cons, encode_append}
 use Rattle.ji.proofs.unicode.Checked.{check_passes}
 use Rattle.ji.proofs.unicode.Laws.{members_append}
-use Rattle.khiin_entries.specs.KeySequence.{split, list_of, keyings, parts_fit, check_parts, check_entry}
-use Rattle.robinflint.specs.Arguments.{keying_numbered}
+use Rattle.khiin_entries.specs.KeySequence.{split, list_of, keyings, keyed, parts_fit, check_parts, check_entry}
+use Rattle.robinflint.specs.Arguments.{kind_of, keying_numbered}
 use Rattle.grammar.specs.WellFormed.{Texts, WellFormed, text, spaced, entry, Few}
 use Rattle.sweep.proofs.Tests.{Each}
 use Rattle.sweep.proofs.Syllables.{syllable_text}
-use Rattle.roundtrip.specs.Demand3.{given, entry_bytes, list, keying_at}
-use Rattle.roundtrip.proofs.AnyEntry.{good_answers}
+use Rattle.roundtrip.specs.Demand3.{entry_bytes, list, keying_at}
+use Rattle.roundtrip.proofs.AnyEntry.{output_is, count_same, good_answers}
 
 -- ── its parts
 abbrev NoSpace : List ℕ → Type 0
@@ -102,6 +102,16 @@ module _ (ss : List WellFormed) (f : Few ss) where
   unfolding keyings
   keyings_entry kind = ap (list_of unicode16 kind) (split_entry ss f)
 
-  pub entry_answers : (kind position : ℕ) (buffer : List ℕ) → kind ≤ 2 → position < length (list kind ss) → length (keying_at kind ss position) ≤ length buffer
-      → keying_numbered (entry_bytes ss) kind position buffer ≡ given kind (entry ss) position buffer
-  entry_answers kind position buffer known inside fits = good_answers (entry_bytes ss) (entry ss) kind position buffer entry_good known inside fits
+  module _ (kind position : ℕ) (buffer : List ℕ) where
+    abbrev texts : Texts
+    texts = keyings unicode16 (kind_of kind) (entry ss)
+
+    at_position : keying_at kind ss position ≡ encode (get_or texts position [])
+    at_position = output_is (entry_bytes ss) (entry ss) kind position buffer
+
+    count_is : length (list kind ss) ≡ length texts
+    count_is = count_same (entry_bytes ss) (entry ss) kind position buffer
+
+    pub entry_answers : kind ≤ 2 → position < length (list kind ss) → length (keying_at kind ss position) ≤ length buffer
+        → keying_numbered (entry_bytes ss) kind position buffer ≡ keyed unicode16 (length (list kind ss)) (keying_at kind ss position) buffer
+    entry_answers = good_answers (entry_bytes ss) (entry ss) kind position buffer entry_good

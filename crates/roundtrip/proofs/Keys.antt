@@ -25,7 +25,7 @@ use Rattle.ji.proofs.Bools.{and_yes}
 use Rattle.ji.proofs.unicode.Ascii.{ascii_more, ascii_nil, ascii_low, ascii_rest}
 use Rattle.khiin_entries.specs.KeySequence.{pick_texts, holds_dot, alone, forms}
 use Rattle.grammar.specs.WellFormed.{Texts, WellFormed, unmarked, text, dotted}
-use Rattle.sweep.proofs.Tests.{both_left, both_right, passed-true, each, Each}
+use Rattle.sweep.proofs.Tests.{both_left, both_right, passed_true, each, Each}
 use Rattle.sweep.proofs.Unmarked.{is_letter_key}
 use Rattle.sweep.proofs.Syllables.{syllable_text, unmarked_sound}
 use Rattle.roundtrip.specs.Demand3.{is_digit, digits}
@@ -65,13 +65,13 @@ tone_digit_law tone = let h = tone_most tone in and_yes _ _ (le-leb 0x30 (digit_
 -- ── letter keys
 bare_of : (s : List ℕ) → T (each is_letter_key s) → Bare s
 bare_of [] t = tt
-bare_of (c ∷ s) t = (let key = both_left (is_letter_key c) (each is_letter_key s) t in not-true (is_digit c) (passed-true _ (both_right (leb c 0x7F) (not (is_digit c)) key)), bare_of s (both_right (is_letter_key c) (each is_letter_key s) t))
+bare_of (c ∷ s) t = (let key = both_left (is_letter_key c) (each is_letter_key s) t in not-true (is_digit c) (passed_true _ (both_right (leb c 0x7F) (not (is_digit c)) key)), bare_of s (both_right (is_letter_key c) (each is_letter_key s) t))
 
 ascii_of : (s : List ℕ) → T (each is_letter_key s) → all_ascii s ≡ true
 ascii_of [] t = ascii_nil
 ascii_of (c ∷ s) t =
     let key = both_left (is_letter_key c) (each is_letter_key s) t in
-    ascii_more c s (leb-true c 0x7F (passed-true _ (both_left (leb c 0x7F) (not (is_digit c)) key))) (ascii_of s (both_right (is_letter_key c) (each is_letter_key s) t))
+    ascii_more c s (leb-true c 0x7F (passed_true _ (both_left (leb c 0x7F) (not (is_digit c)) key))) (ascii_of s (both_right (is_letter_key c) (each is_letter_key s) t))
 
 pub ascii_append : (s u : List ℕ) → all_ascii s ≡ true → all_ascii u ≡ true → all_ascii (s ++ u) ≡ true
 ascii_append [] u h k = k

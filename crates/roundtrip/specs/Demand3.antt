@@ -49,7 +49,7 @@ abbrev pub list : ℕ → List WellFormed → Texts
 list kind ss = list_for kind (entry ss)
 
 abbrev pub keying_at : ℕ → List WellFormed → ℕ → List ℕ
-keying_at kind ss position = keying_for kind (entry ss) position
+keying_at kind ss position = get_or (list kind ss) position []
 
 -- "4^d · 2^(n−d) numeric, as many telex and 2^d detoned ..
 abbrev pub several : Kind → ℕ → ℕ → ℕ
@@ -123,7 +123,7 @@ pub record Pieces (keying : List ℕ) (ss : List WellFormed) : Type 0 where
 pub record OfEntry (ss : List WellFormed) : Type 0 where
   -- no call for a keying of its list is refused where the buffer holds the keying
   pub answers : (kind position : ℕ) (buffer : List ℕ) → kind ≤ 2 → position < length (list kind ss) → length (keying_at kind ss position) ≤ length buffer
-      → keying_numbered (entry_bytes ss) kind position buffer ≡ given kind (entry ss) position buffer
+      → keying_numbered (entry_bytes ss) kind position buffer ≡ keyed unicode16 (length (list kind ss)) (keying_at kind ss position) buffer
   -- "that count is .."
   pub counts : (kind : ℕ) → kind ≤ 2 → length (list kind ss) ≡ counted (kind_of kind) (length ss) (dots ss)
   -- "Exactly 2^d numeric positions hold a fully numbered keying"

@@ -51,8 +51,8 @@ differs c k t = eqb-false c k (not-true (eqb c k) (passes_true _ t))
 
 point_of_law : (c : ℕ) → T (all (point_tests c)) → Point c
 point_of_law c t =
-    let (inside, (atom, (no-below, (no_space, end)))) = passed (point_tests c) t in
-    record { inside = inside; atom = same_equal _ _ atom; other = (differs c 0x0324 no-below, differs c 0x20 no_space) }
+    let (inside, (atom, (no_below, (no_space, end)))) = passed (point_tests c) t in
+    record { inside = inside; atom = same_equal _ _ atom; other = (differs c 0x0324 no_below, differs c 0x20 no_space) }
 
 -- a letter has class 0 or that of 0358, so that no mark is moved behind it
 pub record Letter (c : ℕ) : Type 0 where

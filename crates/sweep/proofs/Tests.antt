@@ -6,7 +6,7 @@ use mathlib.Core.List.{List, [], ◌∷◌, ◌++◌, Memᴰ}
 use mathlib.Core.Logic.{◌⊎◌, inl, inr}
 use lib.Dec.{T}
 pub use Rattle.ucd.proofs.Tests.{both_left, both_right}
-pub use Rattle.ucd.proofs.Tests.{passes_true as passed-true}
+pub use Rattle.ucd.proofs.Tests.{passes_true as passed_true}
 
 both : (a b : Bool) → T a → T b → T (a && b)
 both true b s t = t

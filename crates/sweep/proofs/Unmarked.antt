@@ -140,9 +140,9 @@ module _ (rime s : List ℕ) (h : T (is_sound rime s)) where
   sound_of : Sound rime s
   unfolding khin_in without_khin
   sound_of =
-      let (letter, (no-hyphens, (no_dot, (lettered, (short, (tone, (differ, end))))))) = text_passed in
+      let (letter, (no_hyphens, (no_dot, (lettered, (short, (tone, (differ, end))))))) = text_passed in
       let place = low_place s (tone_letter s) letter in
-      let hyphens : begins (points "--") s ≡ false = no_test _ no-hyphens in
+      let hyphens : begins (points "--") s ≡ false = no_test _ no_hyphens in
       let dot : begins (points "·") s ≡ false = no_test _ no_dot in
       record {
         place = place.0;

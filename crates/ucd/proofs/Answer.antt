@@ -1,24 +1,19 @@
 -- What the lookups answer, from the number or the decomposition that they read. Assumes nothing.
 use mathlib.Core.Path.{◌≡◌, refl, ◌∙◌, ap}
 use mathlib.Core.Bool.{and-false}
-use mathlib.Core.List.{List, [], ◌∷◌}
+use mathlib.Core.List.{[], ◌∷◌}
 use mathlib.Core.Option.{none, some}
 use Prim.Native.Nat.{ℕ, ◌/◌, ◌%◌}
 use lib.Dec.{eqb}
 use borrow.Author.Tests.{eq-eqb, ne_eqb}
 use Rattle.ucd.specs.Table.{Table, same, mapping, decomposition, composite}
 use Rattle.ucd.specs.Unicode16.{unicode16}
-use Rattle.ucd.specs.Answer.{said, unpacked, verified}
+use Rattle.ucd.specs.Answer.{text_of, said, unpacked, unpacked_mapping, verified}
 use Rattle.ucd.proofs.Lists.{or_itself, mapping_decomposition}
 use Rattle.ucd.specs.declared.Mapping.{Mapping}
 use Rattle.ucd.specs.declared.Mapping.TheVariants.{Itself, One, Two}
 
--- the decomposition of c that an answer says
-abbrev pub text_of : ℕ → Mapping → List ℕ
-text_of c Itself = c ∷ []
-text_of c (One a) = a ∷ []
-text_of c (Two a b) = a ∷ b ∷ []
-
+-- the mapping that an answer says determines the decomposition
 pub text_told : (t : Table) (c : ℕ) (m : Mapping) → said m ≡ mapping t c → text_of c m ≡ decomposition t c
 unfolding mapping decomposition
 text_told t c m says = go m ∙ ap (or_itself c) says ∙ mapping_decomposition t.mappings c
@@ -28,22 +23,30 @@ text_told t c m says = go m ∙ ap (or_itself c) says ∙ mapping_decomposition 
     go (One a) = refl
     go (Two a b) = refl
 
--- what a number of the rows unpacks to
-module _ (n : ℕ) where
-  pub unpacked_none : n ≡ 0 → none ≡ unpacked n
+-- what a number of the rows unpacks to, as a decomposition
+module _ (c n : ℕ) where
+  pub unpacked_none : n ≡ 0 → c ∷ [] ≡ unpacked c n
   unpacked_none e = rw e
 
-  pub unpacked_one : (n ≡ 0 → ⊥) → n % 65536 ≡ 0 → some (n / 65536 ∷ []) ≡ unpacked n
+  pub unpacked_one : (n ≡ 0 → ⊥) → n % 65536 ≡ 0 → n / 65536 ∷ [] ≡ unpacked c n
   unpacked_one some_number e = rw (ne_eqb n 0 some_number, eq-eqb (n % 65536) 0 e)
 
-  pub unpacked_two : (n ≡ 0 → ⊥) → (n % 65536 ≡ 0 → ⊥) → some (n / 65536 ∷ n % 65536 ∷ []) ≡ unpacked n
+  pub unpacked_two : (n ≡ 0 → ⊥) → (n % 65536 ≡ 0 → ⊥) → n / 65536 ∷ n % 65536 ∷ [] ≡ unpacked c n
   unpacked_two some_number e = rw (ne_eqb n 0 some_number, ne_eqb (n % 65536) 0 e)
 
--- the composite of a and b, where p is the candidate and m says its decomposition
-module _ (a b p : ℕ) (m : Mapping) (told : said m ≡ mapping unicode16 p) (right : verified a b p ≡ composite unicode16 a b) where
-  says : text_of p m ≡ decomposition unicode16 p
-  says = text_told unicode16 p m told
+-- and as a mapping
+module _ (n : ℕ) where
+  pub mapping_none : n ≡ 0 → none ≡ unpacked_mapping n
+  mapping_none e = rw e
 
+  pub mapping_one : (n ≡ 0 → ⊥) → n % 65536 ≡ 0 → some (n / 65536 ∷ []) ≡ unpacked_mapping n
+  mapping_one some_number e = rw (ne_eqb n 0 some_number, eq-eqb (n % 65536) 0 e)
+
+  pub mapping_two : (n ≡ 0 → ⊥) → (n % 65536 ≡ 0 → ⊥) → some (n / 65536 ∷ n % 65536 ∷ []) ≡ unpacked_mapping n
+  mapping_two some_number e = rw (ne_eqb n 0 some_number, ne_eqb (n % 65536) 0 e)
+
+-- the composite of a and b, where p is the candidate and m says its decomposition
+module _ (a b p : ℕ) (m : Mapping) (says : text_of p m ≡ decomposition unicode16 p) (right : verified a b p ≡ composite unicode16 a b) where
   pub made_itself : m ≡ Itself → none ≡ composite unicode16 a b
   unfolding same
   made_itself e = (rw (← says, e, and-false (eqb p a)) at right)

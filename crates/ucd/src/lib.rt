@@ -2,9 +2,9 @@
 #![tactic(auto)]
 
 ghost use Rattle.std.specs.Prelude.{◌≡◌};
-ghost use Rattle.ucd.specs.Table.{member, mapping, combining_class, composite};
+ghost use Rattle.ucd.specs.Table.{member, mapping, decomposition, combining_class, composite};
 ghost use Rattle.ucd.specs.Unicode16.{unicode16};
-ghost use Rattle.ucd.specs.Answer.{said, point_of};
+ghost use Rattle.ucd.specs.Answer.{text_of, said, point_of};
 
 mod table;
 
@@ -50,9 +50,10 @@ pub enum Mapping {
     Two(u16, u16),
 }
 
-// The mapping of c, if it has one.
+// The decomposition of c: its mapping, if it has one.
 pub fn decomposition(c: u16) -> Mapping
-    ensures { said result ≡ mapping unicode16 c }
+    ensures text { text_of c result ≡ decomposition unicode16 c }
+    ensures mapping { said result ≡ mapping unicode16 c }
 {
     if c < 0x00C0 {
         return Mapping::Itself;

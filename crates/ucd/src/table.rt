@@ -3,7 +3,7 @@
 ghost use Rattle.std.specs.Prelude.{◌≡◌};
 ghost use Rattle.ucd.specs.Table.{mapping, combining_class, composite};
 ghost use Rattle.ucd.specs.Unicode16.{unicode16};
-ghost use Rattle.ucd.specs.Answer.{unpacked, verified};
+ghost use Rattle.ucd.specs.Answer.{unpacked_mapping, verified};
 
 // The mappings of 00C0 to 00DF.
 const MAPPINGS_00C0: [u32; 32] = [
@@ -2059,7 +2059,7 @@ const CANDIDATES_03C0: [u16; 32] = [
 
 // The mapping of c as one number: the first code point times 65536, plus the second, if there is one; 0 for none.
 pub(crate) fn mapping_number(c: u16) -> u32
-    ensures { unpacked result ≡ mapping unicode16 c }
+    ensures { unpacked_mapping result ≡ mapping unicode16 c }
 {
     let at = (c % 32) as usize;
     match c / 32 {

@@ -7,10 +7,9 @@ use native.Mathlib.Omega.{arith}
 use borrow.Author.Tests.{eq-eqb, ne_eqb}
 use lib.ListN.{length, drop, get_or, drop_of_length-le}
 use lib.Seq.{drop-cons, drop-drop}
-use Rattle.ucd.specs.Table.{Table, All, member, mapping, decomposition, mapping_in}
+use Rattle.ucd.specs.Table.{Table, All, member, decomposition, mapping_in}
 use Rattle.ucd.specs.Full.{full, pass, passes}
-use Rattle.ucd.specs.Answer.{said}
-use Rattle.ucd.proofs.Answer.{text_of, text_told}
+use Rattle.ucd.specs.Answer.{text_of}
 use Rattle.ucd.specs.declared.Mapping.{Mapping}
 use Rattle.ucd.specs.Unicode16.{unicode16, mappings16}
 use Rattle.ucd.proofs.Unicode16.{low_atom, full_itself, full_length}
@@ -22,8 +21,8 @@ use Rattle.ji.proofs.utf8.Decoding.{drop_rest}
 
 -- ── what a code point spreads to
 -- what the lookup told of a code point is its decomposition
-pub told : (c : ℕ) {answer x : Mapping} → said answer ≡ mapping unicode16 c → answer ≡ x → decomposition unicode16 c ≡ text_of c x
-told c {answer} says is = sym (text_told unicode16 c answer says) ∙ ap (text_of c) is
+pub told : (c : ℕ) {answer x : Mapping} → text_of c answer ≡ decomposition unicode16 c → answer ≡ x → decomposition unicode16 c ≡ text_of c x
+told c says is = sym says ∙ ap (text_of c) is
 
 module _ (t : Table) where
   pub spread_nil : (d : Bool) → spread t d [] ≡ []
@@ -122,6 +121,10 @@ module _ (t : Table) where
   pub accepted_end : (s : List ℕ) (i : ℕ) → length s ≤ i → accepted t (drop i s) ≡ []
   unfolding accepted accepted_from
   accepted_end s i h = ap (accepted t) (drop_of_length-le s h)
+
+  accepted_nil : accepted t [] ≡ []
+  unfolding accepted accepted_from
+  accepted_nil = refl
 
 -- the dot of o+0358 decomposes no further
 pub dot_full : full unicode16 (0x0358 ∷ []) ≡ 0x0358 ∷ []

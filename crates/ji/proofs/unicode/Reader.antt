@@ -1,5 +1,5 @@
 -- The reader's loop: what holds of the bytes that are read and of the buffer, and what each way out gives.
-use mathlib.Core.Path.{◌≡◌, refl, sym, ap, ◌∙◌}
+use mathlib.Core.Path.{◌≡◌, refl, sym, ap, ◌∙◌, subst}
 use mathlib.Core.Bool.{Bool, true, false}
 use mathlib.Core.List.{List, [], ◌∷◌, ◌++◌, append_assoc, append-nil}
 use mathlib.Core.Option.{Option, none, some}
@@ -7,9 +7,9 @@ use Prim.Native.Nat.{ℕ, zero, suc, ◌+◌, ◌-◌, ◌*◌, ◌≤◌, ◌<�
 use native.Mathlib.Omega.{arith}
 use native.Mathlib.Decide.{dec_le}
 use lib.Dec.{eqb}
-use lib.ListN.{length, take, drop, length-drop, length-append}
+use lib.ListN.{length, take, drop, get_or, length-drop, length-append}
 use borrow.Author.Tests.{eqb-false}
-use lib.Seq.{paste}
+use lib.Seq.{drop-cons, paste}
 use Rattle.ucd.specs.Table.{Table, member, pick_text}
 use Rattle.ucd.specs.Unicode16.{unicode16}
 use Rattle.ji.specs.Written.{Written}
@@ -51,6 +51,12 @@ spread_first : (d : Bool) (b : ℕ) (s : List ℕ) → 0 < width_at (b ∷ s) �
 spread_first d b s k =
     omega (arith, spread_bytes d (point_at (b ∷ s)), ap length (bytes_back b s k), take_most (width_at (b ∷ s)) (b ∷ s))
 
+pub spread_room : (d : Bool) (s : List ℕ) (i : ℕ) → i < length s → 0 < width_at (drop i s) → 2 * length (spread unicode16 d (point_at (drop i s) ∷ [])) ≤ 3 * width_at (drop i s)
+spread_room d s i h k =
+    let e = drop-cons s i 0 h in
+    let first = spread_first d (get_or s i 0) (drop (suc i) s) (subst (λ (l : List ℕ). 0 < width_at l) e k) in
+    subst (λ (l : List ℕ). 2 * length (spread unicode16 d (point_at l ∷ [])) ≤ 3 * width_at l) (sym e) first
+
 -- a text or no text has few code points where each of the two has
 few_picked : (d b : Bool) (u v : List ℕ) (n : ℕ) → (b ≡ true → 2 * length (spread unicode16 d u) ≤ n) → (b ≡ false → 2 * length (spread unicode16 d v) ≤ n)
     → 2 * length (spread unicode16 d (pick_text b u v)) ≤ n
@@ -81,9 +87,9 @@ accepted_few d zero (b ∷ s) =
     (λ m. few_none d _))
 accepted_few d (suc skip) (b ∷ s) = accepted_few d skip s
 
-pub spread_room : (d : Bool) (s : List ℕ) → 2 * length (spread unicode16 d (accepted unicode16 s)) ≤ 3 * length s
+pub accepted_room : (d : Bool) (s : List ℕ) → 2 * length (spread unicode16 d (accepted unicode16 s)) ≤ 3 * length s
 unfolding accepted
-spread_room d s = accepted_few d 0 s
+accepted_room d s = accepted_few d 0 s
 
 -- no sequence reaches past the end
 pub width_within : (s : List ℕ) (i : ℕ) → i < length s → i + width_at (drop i s) ≤ length s
@@ -140,12 +146,23 @@ module _ (t : Table) (s : List ℕ) where
           ap (check_points t) (r.decoded ∙ ap (onto u) (decode_at s i h k ∙ ap (more (point_at (drop i s))) e))
           ∙ ap (λ (b : Bool). pick_checked b (good (u ++ (point_at (drop i s) ∷ v))) (bad OutsideTable)) (members_not t u (point_at (drop i s)) v r.inside m)
 
-      pub taken_outside : check_points t (decode s) ≡ bad (fault_in (decode (drop i s)))
-      taken_outside = go (decode (drop i s)) refl
+      pub taken_outside : is_decoded (decode (drop i s)) ≡ true → check_points t (decode s) ≡ bad OutsideTable
+      taken_outside f = found (decode (drop (i + width_at (drop i s)) s)) refl (sym (ap is_decoded (decode_at s i h k)) ∙ f)
+
+      undecoded : (o : Option (List ℕ)) → is_decoded o ≡ false → o ≡ none
+      undecoded none f = refl
+      undecoded (some v) f = absurd (false_true (sym f))
+
+      pub taken_outside_ill : is_decoded (decode (drop i s)) ≡ false → check_points t (decode s) ≡ bad IllFormed
+      taken_outside_ill f = taken_none (undecoded (decode (drop i s)) f)
+
+      -- the two in one
+      pub taken_fault : check_points t (decode s) ≡ bad (fault_in (decode (drop i s)))
+      taken_fault = go (decode (drop i s)) refl
         where
           go : (o : Option (List ℕ)) → decode (drop i s) ≡ o → check_points t (decode s) ≡ bad (fault_in o)
-          go none e = taken_none e
-          go (some v) e = found (decode (drop (i + width_at (drop i s)) s)) refl (sym (ap is_decoded (decode_at s i h k)) ∙ ap is_decoded e)
+          go none e = taken_outside_ill (ap is_decoded e)
+          go (some v) e = taken_outside (ap is_decoded e)
 
     -- one more code point
     pub taken_more : i < length s → 0 < width_at (drop i s) → member t (point_at (drop i s)) ≡ true → Taken t s (u ++ (point_at (drop i s) ∷ [])) (i + width_at (drop i s))
@@ -180,8 +197,14 @@ module _ (t : Table) (d : Bool) (s before : List ℕ) where
 
       module _ (k : 0 < width_at (drop i s)) where
         module _ (m : member t (point_at (drop i s)) ≡ false) where
-          pub read_outside : Reading t d s before after (Refused (fault_in (decode (drop i s))))
-          read_outside = (taken_outside t s r.taken i r.text h k m, left (accepted_outside t s i h k m))
+          pub read_outside : is_decoded (decode (drop i s)) ≡ true → Reading t d s before after (Refused OutsideTable)
+          read_outside f = (taken_outside t s r.taken i r.text h k m f, left (accepted_outside t s i h k m))
+
+          pub read_outside_ill : is_decoded (decode (drop i s)) ≡ false → Reading t d s before after (Refused IllFormed)
+          read_outside_ill f = (taken_outside_ill t s r.taken i r.text h k m f, left (accepted_outside t s i h k m))
+
+          pub read_fault : Reading t d s before after (Refused (fault_in (decode (drop i s))))
+          read_fault = (taken_fault t s r.taken i r.text h k m, left (accepted_outside t s i h k m))
 
         -- a code point of the table is taken
         module _ (m : member t (point_at (drop i s)) ≡ true) where

@@ -573,7 +573,7 @@ fn compose_body(
     requires { (length body.now ≤ 256) × (length body.now ≤ length points.old) × (length body.now + 1 < length points.old) }
     ensures { (raw_input : List ℕ) → raw.now ≡ encode raw_input → text_reply result out.new ≡ compose_of unicode16 tone khin (good raw_input) (check_text unicode16 body.now) out.old }
 {
-    match unicode::points(body, points) {
+    match unicode::code_points(body, points) {
         Decoded::Refused(why) => TextAnswer::Refused(why),
         Decoded::Points(len) => {
             let n = len.0;

@@ -79,13 +79,13 @@ module _ (single : Bool) (kind : Kind) (part before after : List ℕ) (at : ℕ)
           below (suc (suc j)) h = absurd (omega arith)
 
       pub two_toned_row : (q u : List ℕ) (k : ℕ) → p ≡ q ++ (k ∷ []) → o ≡ u ++ (k ∷ []) → choices_of unicode16 single kind part ≡ p ∷ o ∷ q ∷ u ∷ [] → end ≤ at + (5 * length part + 2) → RowOf unicode16 single kind part at before after (row_two_toned at mid end)
-      two_toned_row q u k p-toned o-toned are short =
-          let n : length p ≡ length q + 1 = ap length p-toned ∙ length-append q (k ∷ []) in
-          let m : length o ≡ length u + 1 = ap length o-toned ∙ length-append u (k ∷ []) in
-          let q_stands = stands_front q (k ∷ []) (rw p-toned at first) in
-          let u-stands = stands_front u (k ∷ []) (rw o-toned at second) in
+      two_toned_row q u k p_toned o_toned are short =
+          let n : length p ≡ length q + 1 = ap length p_toned ∙ length-append q (k ∷ []) in
+          let m : length o ≡ length u + 1 = ap length o_toned ∙ length-append u (k ∷ []) in
+          let q_stands = stands_front q (k ∷ []) (rw p_toned at first) in
+          let u_stands = stands_front u (k ∷ []) (rw o_toned at second) in
           let whole : ◌≡◌ {A = List (List ℕ)} (take (mid - at) (drop at after) ∷ take (end - mid) (drop mid after) ∷ []) (p ∷ o ∷ []) = ap₂ (λ (x y : List ℕ). x ∷ y ∷ []) (cut first (mid - at) (omega arith)) (cut second (end - mid) (omega arith)) in
-          let bare : ◌≡◌ {A = List (List ℕ)} (take (mid - at - 1) (drop at after) ∷ take (end - mid - 1) (drop mid after) ∷ []) (q ∷ u ∷ []) = ap₂ (λ (x y : List ℕ). x ∷ y ∷ []) (cut q_stands (mid - at - 1) (omega arith)) (cut u-stands (end - mid - 1) (omega arith)) in
+          let bare : ◌≡◌ {A = List (List ℕ)} (take (mid - at - 1) (drop at after) ∷ take (end - mid - 1) (drop mid after) ∷ []) (q ∷ u ∷ []) = ap₂ (λ (x y : List ℕ). x ∷ y ∷ []) (cut q_stands (mid - at - 1) (omega arith)) (cut u_stands (end - mid - 1) (omega arith)) in
           record {
             texts = ap₂ (λ (x y : List (List ℕ)). x ++ y) whole bare ∙ sym are;
             within = record { few = inr (inr refl); inside = below };

@@ -27,7 +27,7 @@ fit_none l ls room h = number_no _ _ _ (lt-leb (length l) room h)
 
 -- what holds in both cases
 by_room : {A : Type 0} (n room : ℕ) → (n ≤ room → A) → (room < n → A) → A
-by_room n room yes-case no-case = either (leb n room) (λ b. yes-case (leb-true n room b)) (λ b. no-case (leb-false n room b))
+by_room n room yes_case no_case = either (leb n room) (λ b. yes_case (leb-true n room b)) (λ b. no_case (leb-false n room b))
 
 pub fit_most : (ls : Lines) (room : ℕ) → fitting ls room ≤ length ls
 fit_most [] room = omega arith

@@ -162,11 +162,11 @@ module _ (p r : List ℕ) (c x : ℕ) (hp : All Kept p) (hr : All Kept r) (l : I
 
   whole_strip : (text rest buffer : List ℕ) → text ≡ encode whole → rest ≡ encode left → length text ≤ 256
       → placed (tone_number (mark_tone (x % 65536))) rest buffer ≡ strip_call unicode16 text buffer
-  whole_strip text rest buffer is left-bytes short =
+  whole_strip text rest buffer is left_bytes short =
       ap (λ (o : Tone). placed (tone_number o) rest buffer) (sym (mark_gives (unmarked_tone rest)))
       ∙ strip_told unicode16 text buffer whole (bytes_good text whole whole_members is) short (mark_tone (x % 65536)) rest
       (sym (ap (last_tone None) (nfd_dropped whole ∙ whole_dropped) ∙ last_more None (x % 65536) [] ∙ last_none (mark_tone (x % 65536))))
-      (left-bytes ∙ ap encode (sym (left_kept whole left left_is_kept whole_without)))
+      (left_bytes ∙ ap encode (sym (left_kept whole left left_is_kept whole_without)))
 
 -- the same of its bytes
 module _ (text : List ℕ) (at x : ℕ) (inside : at ≤ length text) (front : KeptTo text 0 at) (some : x ≡ 0 → ⊥) (m : MarkedAt text at x) (back : KeptTo text (at + 2) (length text)) where

@@ -24,10 +24,10 @@ abbrev t : Table
 t = unicode16
 
 -- d is the buffer with the decomposed text, o the text in order, e what composing leaves of it
-module _ (s before d : List ℕ) (n : ℕ) (w : Written before d n (full t s)) (o : List ℕ) (is-o : o ≡ order t (take (n - 0) d)) where
+module _ (s before d : List ℕ) (n : ℕ) (w : Written before d n (full t s)) (o : List ℕ) (is_o : o ≡ order t (take (n - 0) d)) where
   ordered : o ≡ nfd t s
   unfolding nfd
-  ordered = is-o ∙ ap (order t) (front w)
+  ordered = is_o ∙ ap (order t) (front w)
 
   size : length (nfd t s) ≡ n
   unfolding nfd
@@ -48,10 +48,10 @@ module _ (s before d : List ℕ) (n : ℕ) (w : Written before d n (full t s)) (
   rest : drop (n - 0) buffer ≡ drop (length (nfd t s)) before
   rest = rw (buffer_is, sub-zero n, size) (written_drop whole)
 
-  module _ (r : ℕ) (e : List ℕ) (is-r : r ≡ length (compose t (take (n - 0) buffer))) (is-e : e ≡ compose t (take (n - 0) buffer) ++ drop r (take (n - 0) buffer)) (kept : length e ≡ length (take (n - 0) buffer)) where
+  module _ (r : ℕ) (e : List ℕ) (is_r : r ≡ length (compose t (take (n - 0) buffer))) (is_e : e ≡ compose t (take (n - 0) buffer) ++ drop r (take (n - 0) buffer)) (kept : length e ≡ length (take (n - 0) buffer)) where
     left : Written (nfd t s) e r (nfc t s)
     unfolding nfc
-    left = subst (λ (u : List ℕ). Written u e r (compose t u)) part (written_from _ _ _ _ is-r is-e kept)
+    left = subst (λ (u : List ℕ). Written u e r (compose t u)) part (written_from _ _ _ _ is_r is_e kept)
 
     normalised : (r ≡ length (nfc t s)) × (e ++ drop (n - 0) buffer ≡ over (nfc t s) (over (nfd t s) before))
     normalised = (
@@ -61,14 +61,14 @@ module _ (s before d : List ℕ) (n : ℕ) (w : Written before d n (full t s)) (
     )
 
   -- the front of the buffer, once the pair is exchanged in it
-  module _ (a b r : ℕ) (buffer part : List ℕ) (is-r : r ≡ length (nfc t s)) (is-buffer : buffer ≡ over (nfc t s) (over (nfd t s) before)) (is : part ≡ exchanged a b (take (r - 0) buffer)) where
+  module _ (a b r : ℕ) (buffer part : List ℕ) (is_r : r ≡ length (nfc t s)) (is_buffer : buffer ≡ over (nfc t s) (over (nfd t s) before)) (is : part ≡ exchanged a b (take (r - 0) buffer)) where
     exchanged_front : take (r - 0) (part ++ drop (r - 0) buffer) ≡ exchanged a b (nfc t s)
     exchanged_front =
         let front_is : take (r - 0) buffer ≡ nfc t s =
-        rw (is-buffer, is-r, sub-zero (length (nfc t s))) (take-append_seam (nfc t s) (drop (length (nfc t s)) (over (nfd t s) before))) in
+        rw (is_buffer, is_r, sub-zero (length (nfc t s))) (take-append_seam (nfc t s) (drop (length (nfc t s)) (over (nfd t s) before))) in
         let part_is : part ≡ exchanged a b (nfc t s) = is ∙ ap (exchanged a b) front_is in
         let long : length part ≡ r - 0 =
-        ap length part_is ∙ replace_same_length (a ∷ b ∷ []) (b ∷ a ∷ []) (omega arith) refl (nfc t s) ∙ sym (sub-zero r ∙ is-r) in
+        ap length part_is ∙ replace_same_length (a ∷ b ∷ []) (b ∷ a ∷ []) (omega arith) refl (nfc t s) ∙ sym (sub-zero r ∙ is_r) in
         rw (← long) (take-append_seam part (drop (length part) buffer)) ∙ part_is
 
 pub returns : goal.returns

@@ -1,4 +1,4 @@
-use Rattle.ji.proofs.unicode.Reader.{spread_room}
+use Rattle.ji.proofs.unicode.Reader.{accepted_room}
 use mathlib.Core.Bool.{true}
 use Rattle.ucd.specs.Unicode16.{unicode16}
 use Rattle.ji.proofs.Writing.{written_length}
@@ -25,4 +25,4 @@ returns-in-Points c =
     nfd_ordered unicode16 a.text.now a.points.now _ c.if-text-gt256.false _ _ (told unicode16 _ _ _ true c.in-Points.is c.decode.ensures) c.order.ensures
 
 pub decode-requires : goal.decode-requires
-decode-requires c = omega (arith, spread_room true c.args.text.now, c.requires)
+decode-requires c = omega (arith, accepted_room true c.args.text.now, c.requires)

@@ -9,7 +9,7 @@ use Rattle.ji.specs.Utf8.{width_at, point_at, ReadOf}
 use Rattle.ji.specs.Unicode.{accepted}
 use Rattle.ji.proofs.utf8.Decoding.{width_most}
 use Rattle.ji.proofs.unicode.Laws.{accepted_end}
-use Rattle.ji.proofs.unicode.Reader.{taken_start, taken_end, taken_all, taken_ill, taken_outside, taken_more}
+use Rattle.ji.proofs.unicode.Reader.{taken_start, taken_end, taken_all, taken_ill, taken_fault, taken_more}
 use native.Mathlib.Omega.{arith}
 use Rattle.ji.proofs.utf8.Laws.{read_one}
 use Rattle.ji.proofs.unicode.Ascii.{ascii_member}
@@ -75,13 +75,13 @@ returns-else-is_member c =
     let r = c.read-sequence.ensures in
     let some = c.if-width-eq0.false in
     rw c.fault_at.ensures
-    (taken_outside unicode16 s l.invariant.0 l.i l.invariant.1 c.loop-i-test.true (positive s l.i _ _ r some) (told s l.i _ _ r some false (sym c.if-is_member.false ∙ c.is_member.ensures)))
+    (taken_fault unicode16 s l.invariant.0 l.i l.invariant.1 c.loop-i-test.true (positive s l.i _ _ r some) (told s l.i _ _ r some false (sym c.if-is_member.false ∙ c.is_member.ensures)))
 
 pub returns : goal.returns
 returns c =
     let a = c.args in
     let l = c.loop-i in
-    let good-text = taken_end unicode16 a.s.now l.invariant.0 l.i l.invariant.1 c.loop-i-test.false in
+    let good_text = taken_end unicode16 a.s.now l.invariant.0 l.i l.invariant.1 c.loop-i-test.false in
     let all : accepted unicode16 a.s.now ≡ l.invariant.0 =
     taken_all unicode16 a.s.now l.invariant.0 l.i l.invariant.1 (accepted_end unicode16 a.s.now l.i c.loop-i-test.false) in
-    (l.invariant.0, good-text, all, sym l.invariant.2)
+    (l.invariant.0, good_text, all, sym l.invariant.2)

@@ -15,7 +15,7 @@ use Rattle.ji.specs.declared.unicode.Spread.{Spread}
 use Rattle.ji.specs.declared.unicode.Decoded.TheVariants.{Refused}
 use Rattle.ji.proofs.Writing.{written_length}
 use Rattle.ji.proofs.utf8.Decoding.{width_most}
-use Rattle.ji.proofs.unicode.Reader.{Read, read_start, read_end, read_ill, read_outside, read_room, read_more}
+use Rattle.ji.proofs.unicode.Reader.{Read, read_start, read_end, read_ill, read_fault, read_room, read_more}
 use native.Mathlib.Omega.{arith}
 use Rattle.ji.specs.declared.unicode.Spread.TheVariants.{One}
 use Rattle.ji.proofs.utf8.Laws.{read_one}
@@ -39,7 +39,7 @@ module _ (d : Bool) (s before out : List ℕ) (i n w p : ℕ) (r : Read unicode1
 
   -- outside the table
   returns_outside : false ≡ member unicode16 p → Reading unicode16 d s before out (Refused (fault_in (decode (drop i s))))
-  returns_outside m = read_outside unicode16 d s before out i n r h positive (ap (member unicode16) (sym point) ∙ sym m)
+  returns_outside m = read_fault unicode16 d s before out i n r h positive (ap (member unicode16) (sym point) ∙ sym m)
 
   -- in the table
   module _ (m : true ≡ member unicode16 p) where

@@ -4,7 +4,7 @@ use mathlib.Core.Path.{sym, ◌∙◌}
 use Rattle.ucd.specs.Unicode16.{unicode16}
 use Rattle.ji.proofs.unicode.Ascii.{ascii_good}
 use Rattle.ji.proofs.unicode.Laws.{spread_plain}
-use Rattle.ji.proofs.unicode.Reader.{spread_room}
+use Rattle.ji.proofs.unicode.Reader.{accepted_room}
 use native.Mathlib.Omega.{arith}
 use Rattle.ji.proofs.unicode.read_points.Goals as goal
 
@@ -14,4 +14,4 @@ returns-then-is_ascii c =
     (s, ascii_good s (sym c.is_ascii.ensures ∙ c.if-is_ascii.true), rw (spread_plain unicode16 s) c.widen.ensures)
 
 pub decode-requires : goal.decode-requires
-decode-requires c = omega (arith, spread_room false c.args.text.now)
+decode-requires c = omega (arith, accepted_room false c.args.text.now)

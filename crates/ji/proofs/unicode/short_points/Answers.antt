@@ -9,12 +9,12 @@ use Rattle.ji.specs.Reply.{placed}
 use Rattle.ji.proofs.unicode.Laws.{spread_plain}
 use Rattle.ji.proofs.Readings.{front, told}
 use Rattle.ji.proofs.Writing.{written_length}
-use Rattle.ji.proofs.unicode.Reader.{spread_room}
+use Rattle.ji.proofs.unicode.Reader.{accepted_room}
 use Rattle.ji.proofs.unicode.Replied.{reply}
 use Rattle.ji.proofs.unicode.short_points.Goals as goal
 
 pub decode-requires : goal.decode-requires
-decode-requires c = omega (arith, spread_room false c.args.text.now, c.requires)
+decode-requires c = omega (arith, accepted_room false c.args.text.now, c.requires)
 
 pub slice_bounds-place_points-end : goal.slice_bounds-place_points-end
 slice_bounds-place_points-end c =

@@ -11,19 +11,19 @@ pub returns-in-Itself : goal.returns-in-Itself
 unfolding spread
 returns-in-Itself c =
     let x = c.args.c in
-    rw c.if-decomposed.true (sym (full_itself x (told x c.decomposition.ensures c.in-Itself.is)))
+    rw c.if-decomposed.true (sym (full_itself x (told x c.decomposition.ensures.text c.in-Itself.is)))
 
 pub returns-in-One : goal.returns-in-One
 unfolding spread
 returns-in-One c =
     let x = c.args.c in
-    rw c.if-decomposed.true (sym (full_one x _ (told x c.decomposition.ensures c.in-One.is)))
+    rw c.if-decomposed.true (sym (full_one x _ (told x c.decomposition.ensures.text c.in-One.is)))
 
 pub returns-in-Two : goal.returns-in-Two
 unfolding spread
 returns-in-Two c =
     let x = c.args.c in
-    rw c.if-decomposed.true (c.spread_pair.ensures ∙ sym (full_two x _ _ (told x c.decomposition.ensures c.in-Two.is)))
+    rw c.if-decomposed.true (c.spread_pair.ensures ∙ sym (full_two x _ _ (told x c.decomposition.ensures.text c.in-Two.is)))
 
 pub returns-else-decomposed : goal.returns-else-decomposed
 unfolding spread

@@ -18,10 +18,10 @@ use Rattle.khiin.proofs.syllable.compose.Reading.{fewer}
 use Rattle.khiin.proofs.converter.Laws.{key_behind}
 use native.Mathlib.Omega.{arith}
 use Rattle.khiin.proofs.converter.compose_in.Goals as goal
-use Rattle.khiin.proofs.converter.compose_in.Goals.{After-points}
+use Rattle.khiin.proofs.converter.compose_in.Goals.{After-code_points}
 
 -- the stripped text was read
-module _ (c : After-points) where
+module _ (c : After-code_points) where
   abbrev n : ℕ
   n = c.args.n
 
@@ -29,7 +29,7 @@ module _ (c : After-points) where
   part = take (n - 0) c.args.bytes.now
 
   abbrev after : List ℕ
-  after = c.points.new.out
+  after = c.code_points.new.out
 
   part_is : part ≡ take n c.args.bytes.now
   part_is = ap (λ (m : ℕ). take m c.args.bytes.now) (sub-zero n)
@@ -47,10 +47,10 @@ module _ (c : After-points) where
     fewest : length h.rest ≤ n
     fewest = omega (arith, fewer h.rest, ap length h.written, size)
 
-    module _ (len : CharLen) (is : c.points.result ≡ Points len) where
+    module _ (len : CharLen) (is : c.code_points.result ≡ Points len) where
       read : Written c.args.points.now after len.0 h.rest
       read =
-          let g = points_done part c.args.points.now after room c.points.ensures len is in
+          let g = points_done part c.args.points.now after room c.code_points.ensures len is in
           subst (λ (l : List ℕ). Written c.args.points.now after len.0 l) (good_same (sym g.1 ∙ good_rest)) g.2
 
       raw_is : take (n + 1 - 0) (set c.args.bytes.now n c.args.key) ≡ encode (take len.0 after ++ (c.args.key ∷ []))
@@ -69,17 +69,17 @@ slice_bounds-compose_step-end c = omega (arith, c.requires.1, length-set c.args.
 
 pub compose_step-requires : goal.compose_step-requires
 compose_step-requires c =
-    let w = read (goal.at.compose_step-requires c).After-points c.requires.4 c.in-Points.count c.in-Points.is in
-    (omega (arith, w.size, c.requires.4.few), omega (arith, w.size, fewest (goal.at.compose_step-requires c).After-points c.requires.4, written_length w, c.requires.3), raw_is (goal.at.compose_step-requires c).After-points c.requires.4 c.in-Points.count c.in-Points.is)
+    let w = read (goal.at.compose_step-requires c).After-code_points c.requires.4 c.in-Points.count c.in-Points.is in
+    (omega (arith, w.size, c.requires.4.few), omega (arith, w.size, fewest (goal.at.compose_step-requires c).After-code_points c.requires.4, written_length w, c.requires.3), raw_is (goal.at.compose_step-requires c).After-code_points c.requires.4 c.in-Points.count c.in-Points.is)
 
 pub returns-in-Refused : goal.returns-in-Refused
 returns-in-Refused c =
     λ h.
-    let at-points = (goal.at.returns-in-Refused c).After-points in
-    absurd (good_not_bad (sym (good_rest at-points h) ∙ points_refused (part at-points) c.args.points.now c.points.new.out (room at-points) c.points.ensures c.in-Refused.why c.in-Refused.is))
+    let at_points = (goal.at.returns-in-Refused c).After-code_points in
+    absurd (good_not_bad (sym (good_rest at_points h) ∙ points_refused (part at_points) c.args.points.now c.code_points.new.out (room at_points) c.code_points.ensures c.in-Refused.why c.in-Refused.is))
 
 pub returns-in-Points : goal.returns-in-Points
 returns-in-Points c =
     λ h.
     c.compose_step.ensures
-    ∙ ap (λ (l : List ℕ). placed 0 (encode (composed_of unicode16 c.args.k c.args.key c.args.tone l)) c.args.out.now) (written_take (read (goal.at.returns-in-Points c).After-points h c.in-Points.count c.in-Points.is))
+    ∙ ap (λ (l : List ℕ). placed 0 (encode (composed_of unicode16 c.args.k c.args.key c.args.tone l)) c.args.out.now) (written_take (read (goal.at.returns-in-Points c).After-code_points h c.in-Points.count c.in-Points.is))

@@ -2,7 +2,7 @@
 use mathlib.Core.Path.{◌≡◌, refl, sym, ap, ap₂, ◌∙◌, subst}
 use mathlib.Core.Bool.{Bool, true, false, not, ◌&&◌, ◌||◌}
 use mathlib.Core.List.{List, [], ◌∷◌, ◌++◌}
-use Prim.Native.Nat.{ℕ, suc, ◌+◌, ◌-◌, ◌≤◌, ◌<◌, suc-le-suc}
+use Prim.Native.Nat.{ℕ, suc, ◌+◌, ◌-◌, ◌*◌, ◌≤◌, ◌<◌, suc-le-suc}
 use native.Mathlib.Nat.{sub-zero}
 use native.Mathlib.Omega.{arith}
 use borrow.Author.Tests.{eq-eqb, ne_eqb, eqb-true, eqb-false}
@@ -355,6 +355,15 @@ module _ (s : List ℕ) (i : ℕ) (h : i < length s) where
 pub dotted_end : (s : List ℕ) (i : ℕ) → length s ≤ i → dotted o_rules (drop i s) ≡ []
 unfolding dotted
 dotted_end s i h = ap (dotted o_rules) (drop_of_length-le s h)
+
+pub dotted_length : (rules : List (List ℕ × List ℕ)) (s : List ℕ) → length (dotted rules s) ≤ 2 * length s
+unfolding dotted
+dotted_length rules [] = omega arith
+dotted_length rules (x ∷ s) =
+    let most = dotted_length rules s in
+    either (begins_any rules (x ∷ s))
+    (λ e. rw (text_yes (begins_any rules (x ∷ s)) (0x0358 ∷ dotted rules s) (dotted rules s) e) (omega arith))
+    (λ e. rw (text_no (begins_any rules (x ∷ s)) (0x0358 ∷ dotted rules s) (dotted rules s) e) (omega arith))
 
 -- ── the move to the end
 neither : (a b : Bool) → (a || b) ≡ false → (a ≡ false) × (b ≡ false)

@@ -82,9 +82,9 @@ unfolding begins is_pair
 begins_pair a b f g [] e = absurd (false_true e)
 begins_pair a b f g (x ∷ []) e = absurd (false_true (sym (and_false (eqb x a)) ∙ e))
 begins_pair a b f g (x ∷ (y ∷ s)) e =
-    let x-is = eqb-true x a (and_left (eqb x a) (eqb y b && true) e) in
-    let y-is = eqb-true y b (and_left (eqb y b) true (and_right (eqb x a) (eqb y b && true) e)) in
-    and_yes _ _ (ap First x-is ∙ f) ∙ ap Second y-is ∙ g
+    let x_is = eqb-true x a (and_left (eqb x a) (eqb y b && true) e) in
+    let y_is = eqb-true y b (and_left (eqb y b) true (and_right (eqb x a) (eqb y b && true) e)) in
+    and_yes _ _ (ap First x_is ∙ f) ∙ ap Second y_is ∙ g
 
 no_pair_begins : (r : List ℕ × List ℕ) → VowelRule r → (s : List ℕ) → is_pair s ≡ false → begins r.0 s ≡ false
 no_pair_begins r v s e =
@@ -360,9 +360,9 @@ unfolding begins is_nasal_pair
 begins_nasal a b f g [] e = absurd (false_true e)
 begins_nasal a b f g (x ∷ []) e = absurd (false_true (sym (and_false (eqb x a)) ∙ e))
 begins_nasal a b f g (x ∷ (y ∷ s)) e =
-    let x-is = eqb-true x a (and_left (eqb x a) (eqb y b && true) e) in
-    let y-is = eqb-true y b (and_left (eqb y b) true (and_right (eqb x a) (eqb y b && true) e)) in
-    and_yes _ _ (ap IsN x-is ∙ f) ∙ ap IsN y-is ∙ g
+    let x_is = eqb-true x a (and_left (eqb x a) (eqb y b && true) e) in
+    let y_is = eqb-true y b (and_left (eqb y b) true (and_right (eqb x a) (eqb y b && true) e)) in
+    and_yes _ _ (ap IsN x_is ∙ f) ∙ ap IsN y_is ∙ g
 
 no_nasal_begins : (r : List ℕ × List ℕ) → NasalRule r → (s : List ℕ) → is_nasal_pair s ≡ false → begins r.0 s ≡ false
 no_nasal_begins r v s e =

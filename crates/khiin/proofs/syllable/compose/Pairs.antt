@@ -40,9 +40,9 @@ module _ (F G : List ℕ) where
     absent x (y ∷ s) h =
         either (begins (f ∷ g ∷ []) (x ∷ y ∷ s))
         (λ e.
-        let x-is = eqb-true x f (and_left (eqb x f) (eqb y g && true) e) in
-        let y-is = eqb-true y g (and_left (eqb y g) true (and_right (eqb x f) (eqb y g && true) e)) in
-        absurd (not_both x y s h (and_yes _ _ (ap (listed F) x-is ∙ first) ∙ ap (listed G) y-is ∙ second)))
+        let x_is = eqb-true x f (and_left (eqb x f) (eqb y g && true) e) in
+        let y_is = eqb-true y g (and_left (eqb y g) true (and_right (eqb x f) (eqb y g && true) e)) in
+        absurd (not_both x y s h (and_yes _ _ (ap (listed F) x_is ∙ first) ∙ ap (listed G) y_is ∙ second)))
         (λ e. e)
 
     stays : (r : List ℕ) (before : ℕ) (s : List ℕ) → apart_from F G before s ≡ true → replace_all (f ∷ g ∷ []) r s ≡ s

@@ -13,16 +13,18 @@ use borrow.Author.Tests.{eq-eqb, ne_eqb, eqb-true, ltb-true}
 use Rattle.ji.specs.Unicode.{unicode16, listed, mappings16, classes16, mapping_in, class_in, decomposition, combining_class, composite, pass, passes, full}
 use Rattle.ji.specs.Text.{points, begins, replace_all}
 use Rattle.ji.specs.Nfd.{Reorderable, here, there, more, Ordered, order, nfd}
-use Rattle.ji.specs.Nfd.{none as no-exchange}
+use Rattle.ji.specs.Nfd.{none as no_exchange}
 use Rattle.ji.specs.Nfc.{pick_done, behind, under, reversed, absorb, compose_from, nfc}
 use Rattle.ji.specs.Nfc.{compose as composition}
+use Rattle.ji.specs.declared.tone.Tone.{Tone}
+use Rattle.ji.specs.declared.tone.Tone.TheVariants.{None, T1, T2, T3, T4, T5, T6, T7, T8, T9}
 use Rattle.ji.proofs.Bools.{either, false_true, and_yes, and_no, and_false, and_left, and_right, or_no}
 use Rattle.ji.proofs.text.Laws.{replace_nil, replace_hit, replace_miss}
 use Rattle.ji.proofs.Order.{exchanges_behind, ordered_fixed, order_only}
 use Rattle.ji.proofs.Composition.{reversed_at, reversed_reversed, compose_nil, compose_kept, compose_absorbed}
 use Rattle.ji.proofs.ComposeLoops.{low_stays}
 use Rattle.ji.proofs.Decomposition.{full_nil, full_cons}
-use Rattle.khiin.specs.Syllable.{encoded}
+use Rattle.khiin.specs.Syllable.{mark_of, encoded}
 use Rattle.khiin.specs.Compose.{stays_behind, settled_from, is_mark}
 use Rattle.ji.proofs.unicode.Laws.{dot_full}
 use Rattle.khiin.proofs.syllable.marking.Facts.{low_starter, dots_class, dot_class, small_class, capital_class, low_full, dots_full, small_full, capital_full, no_composite}
@@ -354,7 +356,7 @@ module _ (a : List ℕ) (x : ℕ) (b : List ℕ) (h : settled_from 0 (a ++ (x �
         let two : Ordered unicode16 (x ∷ 0x0324 ∷ m ∷ s) = ((λ r. omega (arith, starter)), ((λ r. omega (arith, dots_class, mark.class)), o)) in
         ap (order unicode16) (full_marked ∙ ap (λ (t : List ℕ). a ++ (x ∷ m ∷ t)) is)
         ∙ sym (order_only unicode16 (a ++ (x ∷ m ∷ 0x0324 ∷ s)) (a ++ (x ∷ 0x0324 ∷ m ∷ s))
-        (exchanges_behind unicode16 a (more (there (here r)) no-exchange))
+        (exchanges_behind unicode16 a (more (there (here r)) no_exchange))
         (ordered_front 0 a x (0x0324 ∷ m ∷ s) zero_class front_settled l two).1)
 
     to_dots : compose_from unicode16 [] (a ++ (x ∷ 0x0324 ∷ m ∷ s)) ≡ compose_from unicode16 (0x0324 ∷ x ∷ reversed a) (m ∷ s)
@@ -423,6 +425,19 @@ mark_at k class itself differs two m e =
 
 no_mark : (m : ℕ) → ◌≡◌ {A = List ℕ} [] (m ∷ []) → IsMark m
 no_mark m e = absurd (let z : ◌≡◌ {A = ℕ} 0 1 = cc in omega arith)
+
+pub tone_mark : (tone : Tone) (m : ℕ) → mark_of tone ≡ m ∷ [] → IsMark m
+unfolding mark_of combining_class class_in classes16 unicode16 full passes pass decomposition mapping_in mappings16
+tone_mark None m e = no_mark m e
+tone_mark T1 m e = no_mark m e
+tone_mark T2 m e = mark_at 0x0301 refl refl (λ z. omega arith) (omega arith, omega arith) m e
+tone_mark T3 m e = mark_at 0x0300 refl refl (λ z. omega arith) (omega arith, omega arith) m e
+tone_mark T4 m e = no_mark m e
+tone_mark T5 m e = mark_at 0x0302 refl refl (λ z. omega arith) (omega arith, omega arith) m e
+tone_mark T6 m e = mark_at 0x0303 refl refl (λ z. omega arith) (omega arith, omega arith) m e
+tone_mark T7 m e = mark_at 0x0304 refl refl (λ z. omega arith) (omega arith, omega arith) m e
+tone_mark T8 m e = mark_at 0x030D refl refl (λ z. omega arith) (omega arith, omega arith) m e
+tone_mark T9 m e = mark_at 0x0306 refl refl (λ z. omega arith) (omega arith, omega arith) m e
 
 -- by the list of them
 pub listed_mark : (m : ℕ) → is_mark m ≡ true → IsMark m

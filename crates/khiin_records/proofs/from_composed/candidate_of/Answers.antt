@@ -21,46 +21,46 @@ use Rattle.ji.proofs.unicode.Checked.{bytes_good, good_same, good_not_bad}
 use Rattle.khiin_records.proofs.Records.{members_behind}
 use native.Mathlib.Omega.{arith}
 use Rattle.khiin_records.proofs.from_composed.candidate_of.Goals as goal
-use Rattle.khiin_records.proofs.from_composed.candidate_of.Goals.{After-points}
+use Rattle.khiin_records.proofs.from_composed.candidate_of.Goals.{After-code_points}
 
 -- the rest behind khin was read
-module _ (c : After-points) where
+module _ (c : After-code_points) where
   abbrev rest : List ℕ
   rest = after_khin c.args.stripped.now
 
   room : length rest ≤ length c.args.points.now
   room = let p = c.requires.0 in omega (arith, p, after_khin_length c.args.stripped.now)
 
-  called : points_reply c.points.result c.points.new.out ≡ points_call unicode16 rest c.args.points.now
-  called = rw c.strip_khin-rest.ensures at c.points.ensures
+  called : points_reply c.code_points.result c.code_points.new.out ≡ points_call unicode16 rest c.args.points.now
+  called = rw c.strip_khin-rest.ensures at c.code_points.ensures
 
   good_rest : (u : List ℕ) → members unicode16 u ≡ true → c.args.stripped.now ≡ encode u → check_points unicode16 (decode rest) ≡ good (without_khin u)
   good_rest u m e = bytes_good rest (without_khin u) (members_behind u m) (ap after_khin e ∙ after_points u)
 
-  read : (len : CharLen) → c.points.result ≡ Points len → (w : List ℕ) × (check_points unicode16 (decode rest) ≡ good w) × Written c.args.points.now c.points.new.out len.0 w
-  read len is = points_done rest c.args.points.now c.points.new.out room called len is
+  read : (len : CharLen) → c.code_points.result ≡ Points len → (w : List ℕ) × (check_points unicode16 (decode rest) ≡ good w) × Written c.args.points.now c.code_points.new.out len.0 w
+  read len is = points_done rest c.args.points.now c.code_points.new.out room called len is
 
 pub slice_bounds-choose-end : goal.slice_bounds-choose-end
-slice_bounds-choose-end c = let w = (read (goal.at.slice_bounds-choose-end c).After-points c.in-Points.len c.in-Points.is).2 in omega (arith, w.fits, written_length w)
+slice_bounds-choose-end c = let w = (read (goal.at.slice_bounds-choose-end c).After-code_points c.in-Points.len c.in-Points.is).2 in omega (arith, w.fits, written_length w)
 
 pub choose-requires : goal.choose-requires
 choose-requires c =
-    let w = (read (goal.at.choose-requires c).After-points c.in-Points.len c.in-Points.is).2 in
+    let w = (read (goal.at.choose-requires c).After-code_points c.in-Points.len c.in-Points.is).2 in
     let p = c.requires.1 in
     rw (front w, w.size) (omega (arith, w.fits, p))
 
 pub returns-in-Refused : goal.returns-in-Refused
 returns-in-Refused c =
-    let at-points = (goal.at.returns-in-Refused c).After-points in
+    let at_points = (goal.at.returns-in-Refused c).After-code_points in
     λ u m e.
-    absurd (good_not_bad (sym (good_rest at-points u m e) ∙ points_refused (rest at-points) c.args.points.now c.points.new.out (room at-points) (called at-points) c.in-Refused.why c.in-Refused.is))
+    absurd (good_not_bad (sym (good_rest at_points u m e) ∙ points_refused (rest at_points) c.args.points.now c.code_points.new.out (room at_points) (called at_points) c.in-Refused.why c.in-Refused.is))
 
 pub returns-in-Points : goal.returns-in-Points
 returns-in-Points c =
     let a = c.args in
-    let h = read (goal.at.returns-in-Points c).After-points c.in-Points.len c.in-Points.is in
+    let h = read (goal.at.returns-in-Points c).After-code_points c.in-Points.len c.in-Points.is in
     λ u m e.
-    let same : h.0 ≡ without_khin u = good_same (sym h.1 ∙ good_rest (goal.at.returns-in-Points c).After-points u m e) in
+    let same : h.0 ≡ without_khin u = good_same (sym h.1 ∙ good_rest (goal.at.returns-in-Points c).After-code_points u m e) in
     let khin : c.khin_of-khin.result ≡ khin_in u = c.khin_of-khin.ensures ∙ ap khin_of e ∙ khin_points u in
     c.choose.ensures
     ∙ ap (λ (v : List ℕ). candidate_in (candidates_of a.tone c.khin_of-khin.result v) a.position a.out.now) (front h.2 ∙ same)

@@ -2,93 +2,93 @@
 -- `ucd::table::mapping_number` meets its contract: each arm reads a row of the quick form, and the last arm none. Assumes nothing.
 use Rattle.std.proofs.Common.{rules}
 use Rattle.ucd.proofs.RowData.{mapping_numbers}
-use Rattle.ucd.proofs.Rows.{mapping_arm, mapping_rest}
+use Rattle.ucd.proofs.Rows.{said_arm, said_rest}
 use Rattle.ucd.proofs.table.mapping_number.Goals as goal
 
 pub returns-in-6 : goal.returns-in-6
 unfolding mapping_numbers
-returns-in-6 c = mapping_arm c.args.c 6 c.in-6.is
+returns-in-6 c = said_arm c.args.c 6 c.in-6.is
 
 pub returns-in-7 : goal.returns-in-7
 unfolding mapping_numbers
-returns-in-7 c = mapping_arm c.args.c 7 c.in-7.is
+returns-in-7 c = said_arm c.args.c 7 c.in-7.is
 
 pub returns-in-8 : goal.returns-in-8
 unfolding mapping_numbers
-returns-in-8 c = mapping_arm c.args.c 8 c.in-8.is
+returns-in-8 c = said_arm c.args.c 8 c.in-8.is
 
 pub returns-in-9 : goal.returns-in-9
 unfolding mapping_numbers
-returns-in-9 c = mapping_arm c.args.c 9 c.in-9.is
+returns-in-9 c = said_arm c.args.c 9 c.in-9.is
 
 pub returns-in-10 : goal.returns-in-10
 unfolding mapping_numbers
-returns-in-10 c = mapping_arm c.args.c 10 c.in-10.is
+returns-in-10 c = said_arm c.args.c 10 c.in-10.is
 
 pub returns-in-11 : goal.returns-in-11
 unfolding mapping_numbers
-returns-in-11 c = mapping_arm c.args.c 11 c.in-11.is
+returns-in-11 c = said_arm c.args.c 11 c.in-11.is
 
 pub returns-in-13 : goal.returns-in-13
 unfolding mapping_numbers
-returns-in-13 c = mapping_arm c.args.c 13 c.in-13.is
+returns-in-13 c = said_arm c.args.c 13 c.in-13.is
 
 pub returns-in-14 : goal.returns-in-14
 unfolding mapping_numbers
-returns-in-14 c = mapping_arm c.args.c 14 c.in-14.is
+returns-in-14 c = said_arm c.args.c 14 c.in-14.is
 
 pub returns-in-15 : goal.returns-in-15
 unfolding mapping_numbers
-returns-in-15 c = mapping_arm c.args.c 15 c.in-15.is
+returns-in-15 c = said_arm c.args.c 15 c.in-15.is
 
 pub returns-in-16 : goal.returns-in-16
 unfolding mapping_numbers
-returns-in-16 c = mapping_arm c.args.c 16 c.in-16.is
+returns-in-16 c = said_arm c.args.c 16 c.in-16.is
 
 pub returns-in-17 : goal.returns-in-17
 unfolding mapping_numbers
-returns-in-17 c = mapping_arm c.args.c 17 c.in-17.is
+returns-in-17 c = said_arm c.args.c 17 c.in-17.is
 
 pub returns-in-26 : goal.returns-in-26
 unfolding mapping_numbers
-returns-in-26 c = mapping_arm c.args.c 26 c.in-26.is
+returns-in-26 c = said_arm c.args.c 26 c.in-26.is
 
 pub returns-in-240 : goal.returns-in-240
 unfolding mapping_numbers
-returns-in-240 c = mapping_arm c.args.c 240 c.in-240.is
+returns-in-240 c = said_arm c.args.c 240 c.in-240.is
 
 pub returns-in-241 : goal.returns-in-241
 unfolding mapping_numbers
-returns-in-241 c = mapping_arm c.args.c 241 c.in-241.is
+returns-in-241 c = said_arm c.args.c 241 c.in-241.is
 
 pub returns-in-242 : goal.returns-in-242
 unfolding mapping_numbers
-returns-in-242 c = mapping_arm c.args.c 242 c.in-242.is
+returns-in-242 c = said_arm c.args.c 242 c.in-242.is
 
 pub returns-in-243 : goal.returns-in-243
 unfolding mapping_numbers
-returns-in-243 c = mapping_arm c.args.c 243 c.in-243.is
+returns-in-243 c = said_arm c.args.c 243 c.in-243.is
 
 pub returns-in-244 : goal.returns-in-244
 unfolding mapping_numbers
-returns-in-244 c = mapping_arm c.args.c 244 c.in-244.is
+returns-in-244 c = said_arm c.args.c 244 c.in-244.is
 
 pub returns-in-245 : goal.returns-in-245
 unfolding mapping_numbers
-returns-in-245 c = mapping_arm c.args.c 245 c.in-245.is
+returns-in-245 c = said_arm c.args.c 245 c.in-245.is
 
 pub returns-in-246 : goal.returns-in-246
 unfolding mapping_numbers
-returns-in-246 c = mapping_arm c.args.c 246 c.in-246.is
+returns-in-246 c = said_arm c.args.c 246 c.in-246.is
 
 pub returns-in-247 : goal.returns-in-247
 unfolding mapping_numbers
-returns-in-247 c = mapping_arm c.args.c 247 c.in-247.is
+returns-in-247 c = said_arm c.args.c 247 c.in-247.is
 
 pub returns-in-275 : goal.returns-in-275
 unfolding mapping_numbers
-returns-in-275 c = mapping_arm c.args.c 275 c.in-275.is
+returns-in-275 c = said_arm c.args.c 275 c.in-275.is
 
 pub returns-in_default : goal.returns-in_default
 unfolding mapping_numbers
-returns-in_default c = mapping_rest c.args.c (search rules)
+returns-in_default c = said_rest c.args.c (search rules)

@@ -22,17 +22,17 @@ pub returns-in-Itself : goal.returns-in-Itself
 returns-in-Itself c =
     let w = c.push-in-Itself in
     let a = c.args in
-    (omega (arith, w.ensures.0), further_same (sym (full_itself a.c (told a.c c.decomposition.ensures c.in-Itself.is))) w.ensures.1)
+    (omega (arith, w.ensures.0), further_same (sym (full_itself a.c (told a.c c.decomposition.ensures.text c.in-Itself.is))) w.ensures.1)
 
 pub returns-in-One : goal.returns-in-One
 returns-in-One c =
     let w = c.push-in-One in
     let a = c.args in
-    (omega (arith, w.ensures.0), further_same (sym (full_one a.c _ (told a.c c.decomposition.ensures c.in-One.is))) w.ensures.1)
+    (omega (arith, w.ensures.0), further_same (sym (full_one a.c _ (told a.c c.decomposition.ensures.text c.in-One.is))) w.ensures.1)
 
 pub returns-in-Two : goal.returns-in-Two
 returns-in-Two c =
     let w = c.push-in-Two in
     let v = c.push_first-q in
     let a = c.args in
-    (omega (arith, v.ensures.0, w.ensures.0), further_same (sym (full_two a.c _ _ (told a.c c.decomposition.ensures c.in-Two.is))) (further_both v.ensures.1 w.ensures.1))
+    (omega (arith, v.ensures.0, w.ensures.0), further_same (sym (full_two a.c _ _ (told a.c c.decomposition.ensures.text c.in-Two.is))) (further_both v.ensures.1 w.ensures.1))

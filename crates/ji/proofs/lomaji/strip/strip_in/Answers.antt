@@ -1,4 +1,4 @@
-use Rattle.ji.proofs.unicode.Reader.{spread_room}
+use Rattle.ji.proofs.unicode.Reader.{accepted_room}
 use mathlib.Core.Path.{◌≡◌, ap, ◌∙◌, subst}
 use mathlib.Core.Bool.{true}
 use mathlib.Core.List.{List}
@@ -46,4 +46,4 @@ returns-in-Points c =
     ∙ strip_good unicode16 c.args.text.now c.args.out.now h.0 (check_within_law unicode16 c.args.text.now c.requires.0 ∙ h.1)
 
 pub decode-requires : goal.decode-requires
-decode-requires c = omega (arith, spread_room true c.args.text.now, c.requires)
+decode-requires c = omega (arith, accepted_room true c.args.text.now, c.requires)

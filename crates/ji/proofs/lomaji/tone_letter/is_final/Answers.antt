@@ -29,8 +29,8 @@ pub returns-in-112 : goal.returns-in-112
 unfolding listed
 returns-in-112 c =
     let x = c.args.x in
-    let p-or-t = ⊎_elim (listed_is (points "ptkhmni") 112 x refl) (listed_is (points "ptkhmni") 116 x refl) in
-    ⊎_elim (listed_is (points "ptkhmni") 107 x refl) p-or-t c.in-112.is
+    let p_or_t = ⊎_elim (listed_is (points "ptkhmni") 112 x refl) (listed_is (points "ptkhmni") 116 x refl) in
+    ⊎_elim (listed_is (points "ptkhmni") 107 x refl) p_or_t c.in-112.is
 
 pub returns-in-112-2 : goal.returns-in-112-2
 unfolding listed
