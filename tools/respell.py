@@ -24,6 +24,7 @@ SPAN = re.compile(r"`[^`\n]*`")
 USE = re.compile(r"\buse ([^\s;{]+)\{([^}]*)\}")
 DECLARED = re.compile(r'(?m)^ *(?:(?:abbrev|opaque|unfoldable|pub|let|record|data|in|mutual) +)*(%s)(?: [^=\n]*?)? :(?= |$)' % r'[^\s(){}.;,@"«»`:=|]+')
 BOUND = re.compile(r"[({]((?:%s )+):(?= )|λ ((?:%s ?)+)\.|\blet (%s) =|\bas (%s)" % ((r'[^\s(){}.;,@"«»`:=|]+',) * 4))
+HEAD = re.compile(r"(?m)^ *(?:\| )?%s((?: %s)+) =(?= |$)" % ((r'[^\s(){}.;,@"«»`:=|]+',) * 2))
 GOAL = re.compile(r"\bgoal\.(?:at\.)?(%s)" % NAME)
 # What is written by hand for one function, beside labels that the check makes.
 BY_FUNCTION = ("Answers.antt", "Invariants.antt", "Proof.antt")
@@ -66,6 +67,7 @@ class Names:
                 self.declared |= {m[1] for m in DECLARED.finditer(text)}
                 for m in BOUND.finditer(text):
                     self.declared |= set((m[1] or m[2] or m[3] or m[4]).split())
+                self.declared |= {name for m in HEAD.finditer(text) for name in m[1].split()}
 
     def kept(self, path, text):
         """The names that stay in a file: those of libraries, and labels."""

@@ -20,8 +20,8 @@ record Piece (p r s : List ℕ) (i width size : ℕ) : Type 0 where
 
 module _ (p r s : List ℕ) (i width size : ℕ) (more : i < length s) where
   hit : 0 < length p → begins p (drop i s) ≡ true → width ≡ length p → size ≡ length r → Piece p r s i width size
-  hit some e is-width is-size =
-      rw (is-width, is-size)
+  hit some e is_width is_size =
+      rw (is_width, is_size)
       record {
         some = some;
         inside = omega (arith, simp length-drop at (begins_length p (drop i s) e));
@@ -29,8 +29,8 @@ module _ (p r s : List ℕ) (i width size : ℕ) (more : i < length s) where
       }
 
   miss : begins p (drop i s) ≡ false → width ≡ 1 → size ≡ 1 → Piece p r s i width size
-  miss e is-width is-size =
-      rw (is-width, is-size)
+  miss e is_width is_size =
+      rw (is_width, is_size)
       record { some = omega arith; inside = omega arith; counted = omega (arith, ap length (replace_at_miss p r s i more e)) }
 
 -- a turn of the loop, where its two ways meet

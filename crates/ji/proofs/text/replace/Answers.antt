@@ -53,7 +53,7 @@ module _ (c : In-loop-i) where
     hit_room = rw out_length (underway_room h (i + length pattern) by hit_piece c.requires.1)
 
     hit : (r : ℕ) (out' : List ℕ) → r ≡ j + length by → out' ≡ paste out j by (length by) → Goes out' (i + length pattern) r
-    hit r out' is_r is-out = rw (is_r, is-out) (underway_run h (i + length pattern) by hit_piece hit_inside (rw out_length at hit_room))
+    hit r out' is_r is_out = rw (is_r, is_out) (underway_run h (i + length pattern) by hit_piece hit_inside (rw out_length at hit_room))
 
   module _ (e : begins pattern (drop i src) ≡ false) where
     miss_piece : replace_all pattern by (drop i src) ≡ get_or src i 0 ∷ replace_all pattern by (drop (i + 1) src)

@@ -55,7 +55,7 @@ module _ (c : In-loop-i) where
     hit_piece = rw c.requires.1 (replace_at_hit pattern by s₀ i c.requires.0 more e)
 
     hit : (r : ℕ) (s' : List ℕ) → r ≡ i + length by → s' ≡ paste s i by (length by) → Goes s' r
-    hit r s' is_r is-s = rw (is_r, is-s) (underway_run h (i + length by) by hit_piece hit_room hit_room)
+    hit r s' is_r is_s = rw (is_r, is_s) (underway_run h (i + length by) by hit_piece hit_room hit_room)
 
   miss : begins pattern (drop i s₀) ≡ false → Goes s (i + 1)
   miss e = underway_kept h (i + 1) (replace_at_miss pattern by s₀ i more e) (omega (arith, more)) more

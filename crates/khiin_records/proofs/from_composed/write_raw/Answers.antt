@@ -34,7 +34,7 @@ khin_most Yes = omega arith
 
 -- a piece u was stored behind s
 stored : {before after : List ℕ} {n : ℕ} {s : List ℕ} → Written before after n s → (u after' : List ℕ) (r : ℕ) → n + length u ≤ length after → r ≡ n + length u → after' ≡ paste after n u (length u) → Written before after' r (s ++ u)
-stored w u after' r room is_r is-after = rw (is_r, is-after) (written_run w u (rw (written_length w) at room))
+stored w u after' r room is_r is_after = rw (is_r, is_after) (written_run w u (rw (written_length w) at room))
 
 -- the letters of the body
 module _ (c : After-spell_signs-n) where

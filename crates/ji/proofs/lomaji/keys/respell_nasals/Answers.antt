@@ -60,7 +60,7 @@ module _ (c : In-loop-i) where
   room u e = rw out_length (underway_room h (i + 1) u e c.requires)
 
   ran : (u : List ℕ) → Piece u → (r : ℕ) (out' : List ℕ) → r ≡ j + length u → out' ≡ paste out j u (length u) → Goes out' (i + 1) r
-  ran u e r out' is_r is-out = rw (is_r, is-out) (underway_run h (i + 1) u e (omega arith) (rw out_length at (room u e)))
+  ran u e r out' is_r is_out = rw (is_r, is_out) (underway_run h (i + 1) u e (omega arith) (rw out_length at (room u e)))
 
   one_room : Piece (x ∷ []) → j < length out
   one_room e = omega (arith, room (x ∷ []) e)
