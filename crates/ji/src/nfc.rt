@@ -65,7 +65,7 @@ pub(crate) fn compose(s: &mut [u16]) -> usize
 }
 
 // What normalising answers: how many code points the NFC has, or that the buffer might not hold it.
-#[derive(Drop)]
+#[derive(Clone, Copy)]
 pub enum Normalised {
     Done(CharLen),
     NoRoom,

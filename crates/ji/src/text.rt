@@ -34,7 +34,7 @@ pub fn lower_byte(x: u8) -> u8
 }
 
 // What replacing answers: how many code points were written, or why none was.
-#[derive(Drop)]
+#[derive(Clone, Copy)]
 pub enum Replaced {
     Done(CharLen),
     NoRoom,

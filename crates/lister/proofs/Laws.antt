@@ -1,5 +1,10 @@
 -- Blocks of lines: each has no more lines than are left, and starts where the one before it ends.
-use Rattle.std.proofs.Common.{Option, Some, None, IfSome, option_map, ◌≡◌, ℕ, ◌+◌, ◌-◌, ◌≤◌, List, [], ◌++◌, length, take, drop, sym, ap, ◌∙◌, arith, length-append, length-drop, take-append-drop, take-add, append-nil}
+use native.Mathlib.Nat.{sub-zero}
+use Rattle.std.proofs.Common.{Option, Some, None, IfSome, ◌≡◌, ℕ, ◌+◌, ◌-◌, ◌≤◌, List, [], ◌++◌, length, take, drop, sym, ap, subst, ◌∙◌, arith, length-append, length-drop, length-take-le, take-append-drop, take-add, append-nil}
+use Rattle.std.proofs.Math.Seq.{take-append-add}
+use Rattle.std.proofs.lemmas.List.{take-append-le}
+use Rattle.std.specs.Io.KnownBytes.{Consumes}
+use Rattle.std.proofs.KnownBytes.{Consumes-trans}
 use Rattle.ji.specs.Unicode.{unicode16}
 use Rattle.ji.specs.Reply.{over}
 use Rattle.khiin_entries.specs.Listing.{listing, together, fitting, going_in, shown}
@@ -41,7 +46,23 @@ module _ (entry : List ℕ) where
       ∙ ap together (sym (append-nil (take from ls)) ∙ ap (λ (l : List (List ℕ)). take from ls ++ l) (sym none) ∙ take-append-drop from ls)
 
 -- ── what is read
--- a reader that gives at most `limit` bytes of those that it has
-pub limited : (known : Option (List ℕ)) (limit n : ℕ) (front text : List ℕ) → front ≡ [] → limit ≡ n → IfSome (option_map (take limit) known) (λ xs. text ≡ front ++ xs) → IfSome known (λ input. text ≡ take n input)
-limited None limit n front text f e h = tt
-limited (Some input) limit n front text f e h = h ∙ ap (λ (l : List ℕ). l ++ take limit input) f ∙ ap (λ (m : ℕ). take m input) e
+-- they stay in the buffer
+pub read_inside : (text buf rest : List ℕ) (n k : ℕ) → n ≤ length text → k ≤ length buf → n + k ≤ length (take n text ++ (buf ++ rest))
+read_inside text buf rest n k inside fits =
+    omega (arith, fits, length-append (take n text) (buf ++ rest), length-append buf rest, length-take-le n text inside)
+
+-- the bytes of a reader that are read behind the first n
+pub read_further : (a b c : Option (List ℕ)) (text buf rest : List ℕ) (n k : ℕ) → n ≤ length text → k ≤ length buf → Consumes a b (take n text) → Consumes b c (take k buf)
+    → Consumes a c (take (n + k) (take n text ++ (buf ++ rest)))
+read_further a b c text buf rest n k inside fits first second =
+    let front : length (take n text) ≡ n = length-take-le n text inside in
+    let joined : take (n + k) (take n text ++ (buf ++ rest)) ≡ take n text ++ take k buf =
+    ap (λ (m : ℕ). take (m + k) (take n text ++ (buf ++ rest))) (sym front) ∙ take-append-add (take n text) (buf ++ rest) k
+    ∙ ap (λ (l : List ℕ). take n text ++ l) (take-append-le k buf rest fits) in
+    subst (Consumes a c) (sym joined) (Consumes-trans a b c (take n text) (take k buf) first second)
+
+-- what was read of a reader whose bytes are known, where the buffer has m bytes
+pub read_front : (known : Option (List ℕ)) (text : List ℕ) (n m : ℕ) → length text ≡ m → IfSome known (λ input. take n text ≡ take (length text) input)
+    → IfSome known (λ input. take (n - 0) (drop 0 text) ≡ take m input)
+read_front None text n m e h = tt
+read_front (Some input) text n m e h = ap (λ (k : ℕ). take k text) (sub-zero n) ∙ h ∙ ap (λ (k : ℕ). take k input) e

@@ -13,13 +13,12 @@ ghost use Rattle.khiin_entries.specs.Listing.{listing, shown, together};
 ghost use Rattle.lister.specs.Text.{without_newline, entry_in, printed};
 
 use khiin_entries::listing;
-use std::alloc::Global;
-use std::io::{Read, Write};
+use std::io::{ErrorKind, Read, Write};
 use std::process::ExitCode;
 use std::{fmt, io};
 
 // An entry has at most 1,024 bytes: one more byte than that, and a newline, is enough to see that it is too long.
-const MOST: u64 = 1026;
+const MOST: usize = 1026;
 
 // What did not go through, and why.
 #[derive(Debug, Drop)]
@@ -52,13 +51,36 @@ fn without_newline(text: &[u8]) -> &[u8]
     text
 }
 
-// Reads as much as an entry and a newline may have, and one byte more.
-fn read_text<R: Read + Drop>(reader: R, alloc: Global) -> io::Result<Vec<u8>>
-    ensures { IfOk result (λ text. IfSome (R.remaining reader) (λ input. text.items ≡ take 1026 input)) }
+// Reads into `text` until it is full or the reader has no more, and says how many bytes it got.
+fn fill<R: Read>(reader: &mut R, text: &mut [u8]) -> io::Result<usize>
+    ensures size { length text.new ≡ length text.old }
+    ensures room { IfOk result (λ n. n ≤ length text.new) }
+    ensures bytes { IfOk result (λ n. IfSome (R.remaining reader.old) (λ input. take n text.new ≡ take (length text.new) input)) }
 {
-    let mut text = Vec::new(alloc);
-    reader.take(MOST).read_to_end(&mut text)?;
-    Ok(text)
+    let mut n: usize = 0;
+    // A proved loop has to end, and nothing says that a reader that is interrupted goes on at some time.
+    let mut tries = u64::MAX;
+    while 0 < tries {
+        tries -= 1;
+        match reader.read(&mut text[n..]) {
+            Ok(0) => return Ok(n),
+            Ok(more) => n += more,
+            Err(e) => {
+                if e.kind() != ErrorKind::Interrupted {
+                    return Err(e);
+                }
+            }
+        }
+    }
+    Err(io::Error::from(ErrorKind::Interrupted))
+}
+
+// Reads as much as an entry and a newline may have, and one byte more.
+fn read_text<'a, R: Read>(reader: &mut R, text: &'a mut [u8; MOST]) -> io::Result<&'a [u8]>
+    ensures { IfOk result (λ read. IfSome (R.remaining reader.old) (λ input. read.now ≡ take 1026 input)) }
+{
+    let n = fill(reader, text)?;
+    Ok(&text[0..n])
 }
 
 // Writes a block of lines from number `from` on, and returns the number of the next line: the same, where no line is left.
@@ -94,16 +116,12 @@ fn print_listing<W: Write>(writer: &mut W, entry: &[u8]) -> io::Result<()>
 }
 
 // Reads an entry and writes its listing.
-pub fn list_entry<R: Read + Drop, W: Write>(
-    reader: R,
-    writer: &mut W,
-    alloc: Global,
-) -> Result<(), Failure>
-    ensures { OnOk result (IfSome (R.remaining reader) (λ input. Appends (W.contents writer.old) (W.contents writer.new) (printed (entry_in input)))) }
+pub fn list_entry<R: Read, W: Write>(reader: &mut R, writer: &mut W) -> Result<(), Failure>
+    ensures { OnOk result (IfSome (R.remaining reader.old) (λ input. Appends (W.contents writer.old) (W.contents writer.new) (printed (entry_in input)))) }
 {
-    let text = read_text(reader, alloc).map_err(Failure::Unread)?;
-    let entry = without_newline(text.as_slice());
-    print_listing(writer, entry).map_err(Failure::Unwritten)
+    let mut text = [0u8; MOST];
+    let read = read_text(reader, &mut text).map_err(Failure::Unread)?;
+    print_listing(writer, without_newline(read)).map_err(Failure::Unwritten)
 }
 
 // Says on standard error what failed, and gives the program's status.
@@ -122,9 +140,9 @@ fn report(rt: &impl Eprint, listed: Result<(), Failure>) -> ExitCode
 }
 
 // Reads an entry from standard input and prints its listing.
-pub fn run(rt: &(impl Input + Print + Eprint + AllocGlobal)) -> ExitCode
+pub fn run(rt: &(impl Input + Print + Eprint)) -> ExitCode
     ensures { exit_status result ≤ 1 }
 {
-    let listed = list_entry(rt.reader(), &mut io::writer(rt), rt.alloc());
+    let listed = list_entry(&mut rt.reader(), &mut io::writer(rt));
     report(rt, listed)
 }

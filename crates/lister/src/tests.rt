@@ -44,8 +44,8 @@ impl Read for Broken {
 
 #[test]
 fn full_writer(rt: HostRuntime) -> Result<(), Fail> {
-    let entry: &[u8] = b"a";
-    let listed = list_entry(entry, &mut Small { room: 12 }, rt.alloc());
+    let mut entry: &[u8] = b"a";
+    let listed = list_entry(&mut entry, &mut Small { room: 12 });
     let Err(failure) = listed else {
         assert!(rt; false, "a listing of more bytes was written");
         return Ok(());
@@ -60,11 +60,7 @@ fn full_writer(rt: HostRuntime) -> Result<(), Fail> {
 
 #[test]
 fn broken_reader(rt: HostRuntime) -> Result<(), Fail> {
-    let listed = list_entry(
-        Broken { given: false },
-        &mut Small { room: 1000 },
-        rt.alloc(),
-    );
+    let listed = list_entry(&mut Broken { given: false }, &mut Small { room: 1000 });
     let Err(failure) = listed else {
         assert!(rt; false, "an entry was read");
         return Ok(());

@@ -9,7 +9,7 @@ ghost use Rattle.replay.specs.Replay.{Judges};
 use crate::record::Header;
 use crate::{agrees, record};
 use std::io;
-use std::io::{BufRead, BufReader, ErrorKind, Read};
+use std::io::{ErrorKind, Read};
 
 // The calls by their numbers.
 const NAMES: [&str; 13] = [
@@ -73,12 +73,13 @@ fn replay_body<R: Read>(reader: &mut R, h: Header, body: &mut [u8]) -> io::Resul
 }
 
 // Reads one record, and replays it.
-fn replay_one<R: BufRead>(reader: &mut R) -> io::Result<Outcome> {
-    if reader.fill_buf()?.is_empty() {
+fn replay_one<R: Read>(reader: &mut R) -> io::Result<Outcome> {
+    let mut header = [0u8; 36];
+    // The list may end where a record would begin, and nowhere else.
+    if !fill(reader, &mut header[..1])? {
         return Ok(Outcome::End);
     }
-    let mut header = [0u8; 36];
-    if !fill(reader, &mut header)? {
+    if !fill(reader, &mut header[1..])? {
         return Ok(Outcome::Malformed);
     }
     let h = record::read(&header);
@@ -109,7 +110,7 @@ fn counted(mut t: Tally, call: u8, difference: bool) -> Tally {
     t
 }
 
-fn replay_all<R: BufRead>(reader: &mut R) -> io::Result<Tally> {
+fn replay_all<R: Read>(reader: &mut R) -> io::Result<Tally> {
     let mut t = Tally {
         records: [0; 13],
         different: [0; 13],
@@ -128,9 +129,8 @@ fn replay_all<R: BufRead>(reader: &mut R) -> io::Result<Tally> {
     Ok(t)
 }
 
-pub(crate) fn run(rt: &(impl Input + Print + Alloc)) -> io::Result<()> {
-    let mut reader = BufReader::new(rt.alloc(), rt.reader())?;
-    let t = replay_all(&mut reader)?;
+pub(crate) fn run(rt: &(impl Input + Print)) -> io::Result<()> {
+    let t = replay_all(&mut rt.reader())?;
     for (i, name) in NAMES.iter().enumerate() {
         let all = t.records[i];
         let different = t.different[i];
