@@ -5,7 +5,8 @@ usage: tools/unused.py        status 1 where one is found
 
 A definition or a law of crates/*/specs and crates/*/proofs is cited where its name stands in an .antt or .rt file outside what declares it, or in
 quotes in README.md or docs/*.md, which name the laws that are ends. Answers and invariants are cited by their function, and examples are ends. A
-function is cited where another calls it, or where it is an export. Names are compared as words, so that two things of one name are seen as one.
+function is cited where another calls it, where it is an export, or where it is public and those pages name it. Names are compared as words, so that
+two things of one name are seen as one.
 """
 
 import pathlib
@@ -98,7 +99,8 @@ def main():
             continue
         for name, numbers in declared(path, lines).items():
             code = path.suffix == ".rt"
-            if name == "main" or "◌" in name or (name in quoted and not code):
+            is_public = any(re.match(r"\s*pub fn ", lines[number]) for number in numbers)
+            if name == "main" or "◌" in name or (name in quoted and (is_public or not code)):
                 continue
             if answers and any("goal." in lines[number] for number in numbers):
                 continue
