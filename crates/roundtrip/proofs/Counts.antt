@@ -20,7 +20,7 @@ use Rattle.khiin_entries.specs.KeySequence.{pick_texts, each, product, forms, ch
 use Rattle.khiin_entries.proofs.key_sequence.Product.{size, length_product}
 use Rattle.grammar.specs.WellFormed.{Texts, passing, WellFormed, text, Few, dotted, dots}
 use Rattle.sweep.proofs.Tests.{Each}
-use Rattle.roundtrip.specs.Demand3.{list_for, list, several, counted, digits, is_numbered}
+use Rattle.roundtrip.specs.Demand3.{list, several, counted, digits, is_numbered}
 use Rattle.roundtrip.proofs.Digits.{passing_all, holds_append, holds_each, numbered_product}
 use Rattle.roundtrip.proofs.Keys.{ascii_append, bare, numbered, bare_ascii, numbered_ascii, forms_of, forms_are, forms_numeric, forms_detoned, alone_forms, holds_forms, digits_apart}
 use Rattle.roundtrip.proofs.Entries.{keyings_entry}
@@ -121,7 +121,7 @@ own_bytes [] h = refl
 own_bytes (t ∷ ts) h = ap₂ ◌∷◌ (ascii_bytes t h.0) (own_bytes ts h.1)
 
 pub list_numeric : (ss : List WellFormed) → Few ss → list 1 ss ≡ list_of unicode16 Numeric (map text ss)
-unfolding list_for
+unfolding list
 list_numeric ss f = ap (map encode) (keyings_entry ss f Numeric) ∙ own_bytes (list_of unicode16 Numeric (map text ss)) (ascii_list ss)
 
 -- ── the fully numbered ones are the combinations of the forms with their digits

@@ -15,7 +15,7 @@ use Rattle.khiin_entries.specs.KeySequence.{product, keyings}
 use Rattle.khiin.specs.Syllable.{compose}
 use Rattle.robinflint.specs.Arguments.{kind_of}
 use Rattle.grammar.specs.WellFormed.{Texts, WellFormed, text, spaced, entry, Few, dots}
-use Rattle.roundtrip.specs.Demand3.{list_for, entry_bytes, list, keying_at, counted, is_numbered, Numbered, cut, Returning, OfEntry, Demand3}
+use Rattle.roundtrip.specs.Demand3.{entry_bytes, list, keying_at, counted, is_numbered, Numbered, cut, Returning, OfEntry, Demand3}
 use Rattle.roundtrip.proofs.Digits.{cut_piece, passing_in, each_in, get_d_in}
 use Rattle.roundtrip.proofs.Keys.{digit_of, tone_digit_law, bare, numbered, bare_keys, piece_of}
 use Rattle.roundtrip.proofs.Calls.{compose_text, from_raw_law, returns}
@@ -107,7 +107,7 @@ one_entry {t} {u} {ss} {rs} e p q =
 
 -- ── the demand
 count_kind : (ss : List WellFormed) → Few ss → (kind : ℕ) → length (list kind ss) ≡ counted (kind_of kind) (length ss) (dots ss)
-unfolding list_for
+unfolding list
 count_kind ss f kind =
     length-map (keyings unicode16 (kind_of kind) (entry ss)) encode ∙ ap length (keyings_entry ss f (kind_of kind)) ∙ count_list (kind_of kind) ss f
 

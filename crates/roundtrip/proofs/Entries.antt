@@ -22,7 +22,7 @@ use Rattle.robinflint.specs.Arguments.{kind_of, keying_numbered}
 use Rattle.grammar.specs.WellFormed.{Texts, WellFormed, text, spaced, entry, Few}
 use Rattle.sweep.proofs.Tests.{Each}
 use Rattle.sweep.proofs.Syllables.{syllable_text}
-use Rattle.roundtrip.specs.Demand3.{entry_bytes, list, keying_at}
+use Rattle.roundtrip.specs.Demand3.{list_for, entry_bytes, list, keying_at}
 use Rattle.roundtrip.proofs.AnyEntry.{output_is, count_same, good_answers}
 
 -- ── its parts
@@ -107,11 +107,14 @@ module _ (ss : List WellFormed) (f : Few ss) where
     texts = keyings unicode16 (kind_of kind) (entry ss)
 
     at_position : keying_at kind ss position ≡ encode (get_or texts position [])
+    unfolding list list_for
     at_position = output_is (entry_bytes ss) (entry ss) kind position buffer
 
     count_is : length (list kind ss) ≡ length texts
+    unfolding list list_for
     count_is = count_same (entry_bytes ss) (entry ss) kind position buffer
 
     pub entry_answers : kind ≤ 2 → position < length (list kind ss) → length (keying_at kind ss position) ≤ length buffer
         → keying_numbered (entry_bytes ss) kind position buffer ≡ keyed unicode16 (length (list kind ss)) (keying_at kind ss position) buffer
+    unfolding list list_for
     entry_answers = good_answers (entry_bytes ss) (entry ss) kind position buffer entry_good

@@ -45,8 +45,8 @@ abbrev pub entry_bytes : List WellFormed → List ℕ
 entry_bytes ss = encode (entry ss)
 
 -- its list of a kind, and the keying at a position
-abbrev pub list : ℕ → List WellFormed → Texts
-list kind ss = list_for kind (entry ss)
+unfoldable pub list : ℕ → List WellFormed → Texts
+list kind ss = map encode (keyings unicode16 (kind_of kind) (entry ss))
 
 abbrev pub keying_at : ℕ → List WellFormed → ℕ → List ℕ
 keying_at kind ss position = get_or (list kind ss) position []

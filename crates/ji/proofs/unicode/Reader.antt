@@ -177,11 +177,12 @@ module _ (t : Table) (s : List ℕ) where
 pub record Read (t : Table) (d : Bool) (s before after : List ℕ) (i n : ℕ) : Type 0 where
   pub taken : List ℕ
   pub text : Taken t s taken i
+  pub short : 2 * n ≤ 3 * i
   pub written : Written before after n (spread t d taken)
 
 module _ (t : Table) (d : Bool) (s before : List ℕ) where
   pub read_start : Read t d s before before 0 0
-  read_start = record { taken = []; text = taken_start t s; written = rw (spread_nil t d) (written_none before) }
+  read_start = record { taken = []; text = taken_start t s; short = omega arith; written = rw (spread_nil t d) (written_none before) }
 
   module _ (after : List ℕ) (i n : ℕ) (r : Read t d s before after i n) where
     -- the buffer of a text that is refused here
@@ -221,11 +222,13 @@ module _ (t : Table) (d : Bool) (s before : List ℕ) where
               ∙ ap (λ (l : List ℕ). spread t d r.taken ++ l) (spread_append t d (p ∷ []) rest) in
               omega (arith, room, ap length all, length-append (spread t d r.taken) (spread t d (p ∷ []) ++ spread t d rest), length-append (spread t d (p ∷ [])) (spread t d rest), r.written.size)
 
-          pub read_more : n + length (spread t d (p ∷ [])) ≤ length before
+          pub read_more : 2 * length (spread t d (p ∷ [])) ≤ 3 * width_at (drop i s) → n + length (spread t d (p ∷ [])) ≤ length before
               → Read t d s before (paste after n (spread t d (p ∷ [])) (length (spread t d (p ∷ [])))) (i + width_at (drop i s)) (n + length (spread t d (p ∷ [])))
-          read_more room =
+          read_more few room =
+              let q = r.short in
               record {
                 taken = r.taken ++ (p ∷ []);
                 text = taken_more t s r.taken i r.text h k m;
+                short = omega arith;
                 written = rw (spread_append t d r.taken (p ∷ [])) (written_run r.written (spread t d (p ∷ [])) room);
               }

@@ -15,7 +15,7 @@ use Rattle.ji.specs.declared.unicode.Spread.{Spread}
 use Rattle.ji.specs.declared.unicode.Decoded.TheVariants.{Refused}
 use Rattle.ji.proofs.Writing.{written_length}
 use Rattle.ji.proofs.utf8.Decoding.{width_most}
-use Rattle.ji.proofs.unicode.Reader.{Read, read_start, read_end, read_ill, read_fault, read_room, read_more}
+use Rattle.ji.proofs.unicode.Reader.{spread_room, Read, read_start, read_end, read_ill, read_fault, read_room, read_more}
 use native.Mathlib.Omega.{arith}
 use Rattle.ji.specs.declared.unicode.Spread.TheVariants.{One}
 use Rattle.ji.proofs.utf8.Laws.{read_one}
@@ -61,7 +61,7 @@ module _ (d : Bool) (s before out : List ℕ) (i n w p : ℕ) (r : Read unicode1
 
       again : (m' : ℕ) (out' : List ℕ) → m' ≡ n + length (spread_text x) → out' ≡ paste out n (spread_text x) (length (spread_text x)) → Read unicode16 d s before out' (i + w) m'
       again m' out' em eo =
-          rw (em, eo, wide, ← same_text) (read_more unicode16 d s before out i n r h positive inside enough)
+          rw (em, eo, wide, ← same_text) (read_more unicode16 d s before out i n r h positive inside (spread_room d s i h positive) enough)
 
 pub loop-i-init : goal.loop-i-init
 loop-i-init c = let a = c.args in read_start unicode16 a.decomposed a.s.now a.out.now
