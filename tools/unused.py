@@ -80,7 +80,7 @@ def main():
     papers = "\n".join(
         path.read_text(encoding="utf-8") for path in [ROOT / "README.md", *sorted((ROOT / "docs").rglob("*.md"))]
     )
-    quoted = {word for quote in re.findall(r"`([^`]+)`", papers) for word in WORD.findall(quote)}
+    quoted = {word for quote in re.findall(r"`([^`\n]+)`", papers) for word in WORD.findall(quote)}
     # Where each word stands: the files, and the numbers of the lines that are no import.
     places = {}
     for path, lines in texts.items():
