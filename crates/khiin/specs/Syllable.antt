@@ -84,7 +84,7 @@ encoded t s = replace_all (0x0324 ∷ 0x030D ∷ []) (0x030D ∷ 0x0324 ∷ []) 
 
 -- "Tones 0, 1, 4 add no mark": the mark of a tone, or none
 abbrev pub marks_in : List (ℕ × Tone) → Tone → List ℕ
-marks_in [] tone = []
+marks_in [] _ = []
 marks_in (m ∷ ms) tone = pick_text (eqb (tone_number m.1) (tone_number tone)) (m.0 ∷ []) (marks_in ms tone)
 
 unfoldable pub mark_of : Tone → List ℕ
@@ -107,8 +107,8 @@ compose t raw_input body tone khin = composed_with t raw_input (khin_text khin +
 -- "With two texts, the first passes 2 to 4 before the second. Compose takes raw input first, then body"
 abbrev pub compose_of : Table → Tone → Khin → Checked → Checked → List ℕ → Reply
 compose_of t tone khin (good raw_input) (good body) buffer = placed 0 (encode (compose t raw_input body tone khin)) buffer
-compose_of t tone khin (good raw_input) (bad why) buffer = refused why buffer
-compose_of t tone khin (bad why) body buffer = refused why buffer
+compose_of t _ khin (good raw_input) (bad why) buffer = refused why buffer
+compose_of t _ khin (bad why) body buffer = refused why buffer
 
 unfoldable pub compose_call : Table → List ℕ → List ℕ → Tone → Khin → List ℕ → Reply
 compose_call t raw_input body tone khin buffer = compose_of t tone khin (check_text t raw_input) (check_text t body) buffer

@@ -51,9 +51,9 @@ composed_of t k key tone rest =
     (bare t key rest)
 
 abbrev pub edited : Table → ToneKeys → Edit → ℕ → Tone → List ℕ → List ℕ
-edited t k Behind key tone rest = rest ++ (key ∷ [])
-edited t k Last key tone rest = but_last 1 rest ++ (key ∷ [])
-edited t k LastTwo key tone rest = but_last 2 rest ++ (e_like key ∷ key ∷ [])
+edited t k Behind key _ rest = rest ++ (key ∷ [])
+edited t k Last key _ rest = but_last 1 rest ++ (key ∷ [])
+edited t k LastTwo key _ rest = but_last 2 rest ++ (e_like key ∷ key ∷ [])
 edited t k Compose key tone rest = composed_of t k key tone rest
 
 -- the step with the keys that the mode leaves
