@@ -1,4 +1,5 @@
--- The call that writes the NFC of code points, with the two code points of a pair exchanged wherever it stands.
+-- The two calls that make the NFC of code points: one writes its bytes, with the two code points of a pair exchanged wherever it stands, one makes it in the
+-- lent buffer.
 use Rattle.std.specs.Prelude.{◌≡◌, List, [], ◌∷◌, ℕ, ◌/◌, ◌≤◌, ◌<◌, length, leb}
 use Rattle.ucd.specs.Table.{Table}
 use Rattle.ji.specs.Text.{replace_all}

@@ -37,7 +37,7 @@ PointsReading t s before after answer =
     (length s ≤ length before / 3 * 2 → Reading t false s before after answer)
     × (length before / 3 * 2 < length s → (answer ≡ Refused NoRoom) × (after ≡ before))
 
--- reading without a buffer: how many code points there are, all of them accepted
+-- a text that is read without a buffer: how many code points it has, all of them accepted
 abbrev pub Counting : Table → List ℕ → Decoded → Type 0
 Counting t s (Points n) = (u : List ℕ) × (check_points t (decode s) ≡ good u) × (accepted t s ≡ u) × (n.0 ≡ length u)
 Counting t s (Refused why) = check_points t (decode s) ≡ bad why
@@ -56,7 +56,7 @@ points_of (bad why) buffer = refused why buffer
 abbrev pub points_call : Table → List ℕ → List ℕ → Reply
 points_call t text buffer = points_of (check_points t (decode text)) buffer
 
--- the same for a text that is put into NFD; one that is too long is not read
+-- the code points of a text that is put into NFD stand in the buffer; a text that is too long is not read
 abbrev pub NfdReading : Table → List ℕ → List ℕ → List ℕ → Decoded → Type 0
 NfdReading t s before after (Points n) = (u : List ℕ) × (check_text t s ≡ good u) × Written before after n.0 (nfd t u)
 NfdReading t s before after (Refused why) =

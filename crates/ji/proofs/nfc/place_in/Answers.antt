@@ -1,75 +1,34 @@
-use mathlib.Core.Path.{◌≡◌, refl, sym, ap, ◌∙◌, subst}
-use mathlib.Core.List.{List, [], ◌∷◌, ◌++◌, append_assoc}
+use mathlib.Core.Path.{◌≡◌, refl, sym, ap, ◌∙◌}
+use mathlib.Core.List.{List, [], ◌∷◌, ◌++◌}
 use Prim.Native.Nat.{ℕ, ◌-◌}
 use lib.ListN.{length, take, drop}
-use lib.Seq.{drop-append-le, take-append_seam}
+use lib.Seq.{take-append_seam}
 use native.Mathlib.Nat.{sub-zero}
+use native.Mathlib.Omega.{arith}
 use Rattle.ucd.specs.Table.{Table}
-use Rattle.ucd.specs.Full.{full}
 use Rattle.ucd.specs.Unicode16.{unicode16}
-use Rattle.ji.specs.Written.{Written}
-use Rattle.ji.specs.Nfd.{order, nfd}
-use Rattle.ji.specs.Nfc.{compose, nfc}
+use Rattle.ji.specs.Nfd.{nfd}
+use Rattle.ji.specs.Nfc.{nfc}
 use Rattle.ji.specs.Reply.{over, placed}
 use Rattle.ji.specs.Utf8.{encode}
 use Rattle.ji.specs.Normalising.{exchanged}
 use Rattle.ji.proofs.text.Laws.{replace_same_length}
-use Rattle.ji.proofs.Order.{order_length}
-use Rattle.ji.proofs.Writing.{written_from, written_drop, written_over}
-use Rattle.ji.proofs.Readings.{front}
-use native.Mathlib.Omega.{arith}
+use Rattle.ji.proofs.nfc.Laws.{normalised}
 use Rattle.ji.proofs.nfc.place_in.Goals as goal
 
 abbrev t : Table
 t = unicode16
 
--- d is the buffer with the decomposed text, o the text in order, e what composing leaves of it
-module _ (s before d : List ℕ) (n : ℕ) (w : Written before d n (full t s)) (o : List ℕ) (is_o : o ≡ order t (take (n - 0) d)) where
-  ordered : o ≡ nfd t s
-  unfolding nfd
-  ordered = is_o ∙ ap (order t) (front w)
-
-  size : length (nfd t s) ≡ n
-  unfolding nfd
-  size = order_length t (full t s) ∙ w.size
-
-  whole : Written before (nfd t s ++ drop n d) n (nfd t s)
-  whole = written_over w (nfd t s) size
-
-  abbrev buffer : List ℕ
-  buffer = o ++ drop (n - 0) d
-
-  buffer_is : buffer ≡ nfd t s ++ drop n d
-  buffer_is = rw (ordered, sub-zero n) refl
-
-  part : take (n - 0) buffer ≡ nfd t s
-  part = ap (take (n - 0)) buffer_is ∙ front whole
-
-  rest : drop (n - 0) buffer ≡ drop (length (nfd t s)) before
-  rest = rw (buffer_is, sub-zero n, size) (written_drop whole)
-
-  module _ (r : ℕ) (e : List ℕ) (is_r : r ≡ length (compose t (take (n - 0) buffer))) (is_e : e ≡ compose t (take (n - 0) buffer) ++ drop r (take (n - 0) buffer)) (kept : length e ≡ length (take (n - 0) buffer)) where
-    left : Written (nfd t s) e r (nfc t s)
-    unfolding nfc
-    left = subst (λ (u : List ℕ). Written u e r (compose t u)) part (written_from _ _ _ _ is_r is_e kept)
-
-    normalised : (r ≡ length (nfc t s)) × (e ++ drop (n - 0) buffer ≡ over (nfc t s) (over (nfd t s) before))
-    normalised = (
-      sym left.size,
-      rw (rest, left.is, ← left.size) (append_assoc (nfc t s) (drop (length (nfc t s)) (nfd t s)) (drop (length (nfd t s)) before)
-          ∙ ap (λ (u : List ℕ). nfc t s ++ u) (sym (drop-append-le (length (nfc t s)) (nfd t s) (drop (length (nfd t s)) before) (rw left.size left.fits)))),
-    )
-
-  -- the front of the buffer, once the pair is exchanged in it
-  module _ (a b r : ℕ) (buffer part : List ℕ) (is_r : r ≡ length (nfc t s)) (is_buffer : buffer ≡ over (nfc t s) (over (nfd t s) before)) (is : part ≡ exchanged a b (take (r - 0) buffer)) where
-    exchanged_front : take (r - 0) (part ++ drop (r - 0) buffer) ≡ exchanged a b (nfc t s)
-    exchanged_front =
-        let front_is : take (r - 0) buffer ≡ nfc t s =
-        rw (is_buffer, is_r, sub-zero (length (nfc t s))) (take-append_seam (nfc t s) (drop (length (nfc t s)) (over (nfd t s) before))) in
-        let part_is : part ≡ exchanged a b (nfc t s) = is ∙ ap (exchanged a b) front_is in
-        let long : length part ≡ r - 0 =
-        ap length part_is ∙ replace_same_length (a ∷ b ∷ []) (b ∷ a ∷ []) (omega arith) refl (nfc t s) ∙ sym (sub-zero r ∙ is_r) in
-        rw (← long) (take-append_seam part (drop (length part) buffer)) ∙ part_is
+-- the front of the buffer, once the pair is exchanged in it
+module _ (s before : List ℕ) (a b r : ℕ) (buffer part : List ℕ) (is_r : r ≡ length (nfc t s)) (is_buffer : buffer ≡ over (nfc t s) (over (nfd t s) before)) (is : part ≡ exchanged a b (take (r - 0) buffer)) where
+  exchanged_front : take (r - 0) (part ++ drop (r - 0) buffer) ≡ exchanged a b (nfc t s)
+  exchanged_front =
+      let front_is : take (r - 0) buffer ≡ nfc t s =
+      rw (is_buffer, is_r, sub-zero (length (nfc t s))) (take-append_seam (nfc t s) (drop (length (nfc t s)) (over (nfd t s) before))) in
+      let part_is : part ≡ exchanged a b (nfc t s) = is ∙ ap (exchanged a b) front_is in
+      let long : length part ≡ r - 0 =
+      ap length part_is ∙ replace_same_length (a ∷ b ∷ []) (b ∷ a ∷ []) (omega arith) refl (nfc t s) ∙ sym (sub-zero r ∙ is_r) in
+      rw (← long) (take-append_seam part (drop (length part) buffer)) ∙ part_is
 
 pub returns : goal.returns
 returns c =
@@ -77,7 +36,7 @@ returns c =
     let d = c.decompose-n in
     let o = c.order in
     let k = c.compose-m in
-    let r = normalised a.s.now a.work.now d.new.out d.result d.ensures o.new.s o.ensures k.result k.new.s k.ensures.0 k.ensures.1 k.auto.s in
+    let r = normalised unicode16 a.s.now a.work.now d.new.out d.result d.ensures o.new.s o.ensures k.result k.new.s k.ensures.0 k.ensures.1 k.auto.s in
     c.place.ensures
     ∙ ap (λ (u : List ℕ). placed 0 (encode u) a.out.now)
-    (exchanged_front a.s.now a.work.now d.new.out d.result d.ensures o.new.s o.ensures a.a a.b k.result _ c.replace_pair.new.s r.0 r.1 c.replace_pair.ensures)
+    (exchanged_front a.s.now a.work.now a.a a.b k.result _ c.replace_pair.new.s r.0 r.1 c.replace_pair.ensures)
