@@ -11,6 +11,7 @@ use Rattle.khiin_entries.specs.Listing.{listing, together, fitting, going_in, sh
 use Rattle.khiin_entries.proofs.listing.Fitting.{together_append, fit_most, going_count}
 use Rattle.lister.proofs.Short.{short_drop, listing_short, none_left}
 
+-- a text that stands in the buffer is no longer than it
 pub block_inside : (text before after : List ℕ) (len : ℕ) → len ≡ length text → after ≡ over text before → length after ≡ length before → len ≤ length after
 block_inside text before after len l is same = omega (arith, ap length is, length-append text (drop (length text) before), length-drop (length text) before)
 
@@ -46,12 +47,12 @@ module _ (entry : List ℕ) where
       ∙ ap together (sym (append-nil (take from ls)) ∙ ap (λ (l : List (List ℕ)). take from ls ++ l) (sym none) ∙ take-append-drop from ls)
 
 -- ── what is read
--- they stay in the buffer
+-- bytes that are read behind the first n stay in the buffer
 pub read_inside : (text buf rest : List ℕ) (n k : ℕ) → n ≤ length text → k ≤ length buf → n + k ≤ length (take n text ++ (buf ++ rest))
 read_inside text buf rest n k inside fits =
     omega (arith, fits, length-append (take n text) (buf ++ rest), length-append buf rest, length-take-le n text inside)
 
--- the bytes of a reader that are read behind the first n
+-- and with the first n are all that the reader gave
 pub read_further : (a b c : Option (List ℕ)) (text buf rest : List ℕ) (n k : ℕ) → n ≤ length text → k ≤ length buf → Consumes a b (take n text) → Consumes b c (take k buf)
     → Consumes a c (take (n + k) (take n text ++ (buf ++ rest)))
 read_further a b c text buf rest n k inside fits first second =
