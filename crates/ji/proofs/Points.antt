@@ -12,11 +12,10 @@ use Rattle.ji.specs.Reading.{points_reply, points_of, points_call}
 use Rattle.ji.specs.declared.reply.Refusal.{Refusal}
 use Rattle.ji.specs.declared.reply.Refusal.TheVariants.{Argument, TooLong, IllFormed, OutsideTable, Parts, Position, NoRoom}
 use Rattle.ji.specs.declared.unicode.CharLen.{CharLen}
-use Rattle.ji.specs.declared.unicode.Decoded.{Decoded}
-use Rattle.ji.specs.declared.unicode.Decoded.TheVariants.{Points, Refused}
 use Rattle.ji.proofs.Replies.{refusal_some, placed_whole}
 use Rattle.ji.proofs.unicode.Bytes.{fewer}
 use Rattle.ji.proofs.unicode.Checked.{points_passed}
+use Rattle.std.specs.Prelude.{Result, Ok, Err}
 
 -- a refusal's number says which it is
 refusal_at : ℕ → Refusal
@@ -39,16 +38,16 @@ module _ (s before after : List ℕ) (room : length s ≤ length before) where
       ap (λ (k : Checked). points_of k before) e
       ∙ sym (placed_whole 0 u before (omega (arith, room, fewer u, ap length (points_passed s u e).written)))
 
-  module _ {answer : Decoded} (says : points_reply answer after ≡ points_call unicode16 s before) where
-    replied : {x : Decoded} → answer ≡ x → {r : Reply} → points_call unicode16 s before ≡ r → points_reply x after ≡ r
-    replied e {r} f = ap (λ (x : Decoded). points_reply x after) (sym e) ∙ says ∙ f
+  module _ {answer : Result CharLen Refusal} (says : points_reply answer after ≡ points_call unicode16 s before) where
+    replied : {x : Result CharLen Refusal} → answer ≡ x → {r : Reply} → points_call unicode16 s before ≡ r → points_reply x after ≡ r
+    replied e {r} f = ap (λ (x : Result CharLen Refusal). points_reply x after) (sym e) ∙ says ∙ f
 
-    pub points_done : (n : CharLen) → answer ≡ Points n → (u : List ℕ) × (check_points unicode16 (decode s) ≡ good u) × Written before after n.0 u
+    pub points_done : (n : CharLen) → answer ≡ Ok n → (u : List ℕ) × (check_points unicode16 (decode s) ≡ good u) × Written before after n.0 u
     points_done n e = go (check_points unicode16 (decode s)) refl
       where
         go : (k : Checked) → check_points unicode16 (decode s) ≡ k → (u : List ℕ) × (check_points unicode16 (decode s) ≡ good u) × Written before after n.0 u
         go (good u) f =
-            let same : points_reply (Points n) after ≡ answered 0 u before = replied e (good_called u f) in
+            let same : points_reply (Ok n) after ≡ answered 0 u before = replied e (good_called u f) in
             let size : n.0 ≡ length u = ap (λ (r : Reply). r.length) same in (
               u,
               f,
@@ -62,7 +61,7 @@ module _ (s before after : List ℕ) (room : length s ≤ length before) where
             let none : 0 ≡ refusal_number why = ap (λ (r : Reply). r.code) (replied e (ap (λ (k : Checked). points_of k before) f)) in
             absurd (let z : ⊥ = omega (arith, none, refusal_some why) in z)
 
-    pub points_refused : (why : Refusal) → answer ≡ Refused why → check_points unicode16 (decode s) ≡ bad why
+    pub points_refused : (why : Refusal) → answer ≡ Err why → check_points unicode16 (decode s) ≡ bad why
     points_refused why e = go (check_points unicode16 (decode s)) refl
       where
         go : (k : Checked) → check_points unicode16 (decode s) ≡ k → check_points unicode16 (decode s) ≡ bad why

@@ -13,33 +13,33 @@ use Rattle.ji.specs.Nfd.{order, nfd}
 use Rattle.ji.specs.Reading.{Reading, NfdReading}
 use Rattle.ji.specs.declared.reply.Refusal.{Refusal}
 use Rattle.ji.specs.declared.reply.Refusal.TheVariants.{TooLong}
-use Rattle.ji.specs.declared.unicode.Decoded.{Decoded}
-use Rattle.ji.specs.declared.unicode.Decoded.TheVariants.{Points, Refused}
 use Rattle.ji.proofs.Bools.{text_yes, text_no}
 use Rattle.ji.proofs.Writing.{written_take, written_over}
 use Rattle.ji.proofs.Replies.{check_long, check_within_law}
 use Rattle.ji.proofs.Order.{order_length}
+use Rattle.std.specs.Prelude.{Result, Ok, Err}
+use Rattle.ji.specs.declared.unicode.CharLen.{CharLen}
 
 -- the front of a buffer that was written to, as a part `[0..n]` has it
 pub front : {before after : List ℕ} {n : ℕ} {s : List ℕ} → Written before after n s → take (n - 0) after ≡ s
 front {before} {after} {n} {s} w = ap (λ (k : ℕ). take k after) (sub-zero n) ∙ written_take w
 
 module _ (t : Table) (s before after : List ℕ) where
-  pub told : (d : Bool) {answer x : Decoded} → answer ≡ x → Reading t d s before after answer → Reading t d s before after x
+  pub told : (d : Bool) {answer x : Result CharLen Refusal} → answer ≡ x → Reading t d s before after answer → Reading t d s before after x
   told d e h = subst (Reading t d s before after) e h
 
-  pub nfd_told : {answer x : Decoded} → answer ≡ x → NfdReading t s before after answer → NfdReading t s before after x
+  pub nfd_told : {answer x : Result CharLen Refusal} → answer ≡ x → NfdReading t s before after answer → NfdReading t s before after x
   nfd_told e h = subst (NfdReading t s before after) e h
 
   -- a text that is too long, one that is refused as it is read, and one that was put in order
-  pub nfd_long : 256 < length s → NfdReading t s before before (Refused TooLong)
+  pub nfd_long : 256 < length s → NfdReading t s before before (Err TooLong)
   nfd_long h = (check_long t s h, sym (text_no _ _ _ (lt-leb _ _ h)))
 
   module _ (h : length s ≤ 256) where
-    pub nfd_refused : (why : Refusal) → Reading t true s before after (Refused why) → NfdReading t s before after (Refused why)
+    pub nfd_refused : (why : Refusal) → Reading t true s before after (Err why) → NfdReading t s before after (Err why)
     nfd_refused why r = (check_within_law t s h ∙ r.0, r.1.is ∙ sym (text_yes _ _ _ (le-leb _ _ h)))
 
-    pub nfd_ordered : (n : ℕ) (front' : List ℕ) → Reading t true s before after (Points (record { 0 = n })) → front' ≡ order t (take (n - 0) after) → NfdReading t s before (front' ++ drop (n - 0) after) (Points (record { 0 = n }))
+    pub nfd_ordered : (n : ℕ) (front' : List ℕ) → Reading t true s before after (Ok (record { 0 = n })) → front' ≡ order t (take (n - 0) after) → NfdReading t s before (front' ++ drop (n - 0) after) (Ok (record { 0 = n }))
     unfolding nfd spread
     nfd_ordered n front' r e =
         let w = r.2 in

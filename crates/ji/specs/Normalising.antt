@@ -8,8 +8,8 @@ use Rattle.ji.specs.Nfd.{nfd}
 use Rattle.ji.specs.Nfc.{nfc}
 use Rattle.ji.specs.Reply.{Reply, refused, pick_reply, over, placed}
 use Rattle.ji.specs.declared.reply.Refusal.TheVariants.{TooLong}
-use Rattle.ji.specs.declared.nfc.Normalised.{Normalised}
-use Rattle.ji.specs.declared.nfc.Normalised.TheVariants.{Done, NoRoom}
+use Rattle.std.specs.Prelude.{Some, Option, None}
+use Rattle.ji.specs.declared.unicode.CharLen.{CharLen}
 
 -- each a b becomes b a
 abbrev pub exchanged : ℕ → ℕ → List ℕ → List ℕ
@@ -21,6 +21,6 @@ exchanged_call t a b s buffer = pick_reply (leb (length s) 1024) (placed 0 (enco
 
 -- ── NFC in the buffer itself
 -- the NFC of s stands in the buffer, where its NFD was made; or the buffer is as it was, since it has fewer than three places for a code point
-abbrev pub Normalising : Table → List ℕ → List ℕ → List ℕ → Normalised → Type 0
-Normalising t s before after (Done n) = (length s ≤ length before / 3) × (n.0 ≡ length (nfc t s)) × (after ≡ over (nfc t s) (over (nfd t s) before))
-Normalising t s before after NoRoom = (length before / 3 < length s) × (after ≡ before)
+abbrev pub Normalising : Table → List ℕ → List ℕ → List ℕ → Option CharLen → Type 0
+Normalising t s before after (Some n) = (length s ≤ length before / 3) × (n.0 ≡ length (nfc t s)) × (after ≡ over (nfc t s) (over (nfd t s) before))
+Normalising t s before after None = (length before / 3 < length s) × (after ≡ before)

@@ -6,9 +6,8 @@ use Rattle.ji.specs.Utf8.{decode, encode}
 use Rattle.ji.specs.Unicode.{members}
 use Rattle.ji.specs.declared.reply.Refusal.{Refusal}
 use Rattle.ji.specs.declared.reply.Refusal.TheVariants.{Argument, TooLong, IllFormed, OutsideTable, Parts, Position, NoRoom}
-use Rattle.ji.specs.declared.unicode.Verdict.{Verdict}
-use Rattle.ji.specs.declared.reply.TextAnswer.{TextAnswer}
-use Rattle.ji.specs.declared.reply.TextAnswer.TheVariants.{Done, Refused}
+use Rattle.std.specs.Prelude.{Result, Ok, Err}
+use Rattle.ji.specs.declared.unicode.ByteLen.{ByteLen}
 
 -- the numbers of the refusals
 abbrev pub refusal_number : Refusal → ℕ
@@ -81,9 +80,9 @@ unfoldable pub check_text : Table → List ℕ → Checked
 check_text t s = check_within t 256 s
 
 -- whether it is good, as the code has it
-abbrev pub verdict_of : Checked → Verdict
-verdict_of (good s) = Verdict.Good
-verdict_of (bad why) = Verdict.Refused why
+abbrev pub verdict_of : Checked → Result (Unit {0}) Refusal
+verdict_of (good s) = Ok tt
+verdict_of (bad why) = Err why
 
 -- ── a call that gives one text
 -- its reply to a text that was checked, and to the bytes of a text; f is what the call makes of its code points
@@ -95,6 +94,6 @@ unfoldable pub text_call : Table → (List ℕ → List ℕ) → List ℕ → Li
 text_call t f text buffer = text_of f (check_text t text) buffer
 
 -- the code's answer, and what it leaves in the buffer, as a reply
-abbrev pub text_reply : TextAnswer → List ℕ → Reply
-text_reply (Done n) buffer = record { code = 0; length = n.0; count = 0; body = 0; tone = 0; khin = 0; position = 0; buffer = buffer }
-text_reply (Refused why) buffer = refused why buffer
+abbrev pub text_reply : Result ByteLen Refusal → List ℕ → Reply
+text_reply (Ok n) buffer = record { code = 0; length = n.0; count = 0; body = 0; tone = 0; khin = 0; position = 0; buffer = buffer }
+text_reply (Err why) buffer = refused why buffer

@@ -7,9 +7,9 @@ ghost use Rattle.ji.specs.Reply.{placed, text_call, text_reply};
 ghost use Rattle.ji.specs.Normalising.{exchanged, exchanged_call, Normalising};
 ghost use Rattle.ji.specs.Nfc.{pick_done, reversed, absorb, compose, nfc};
 
-use crate::reply::{Refusal, TextAnswer};
+use crate::reply::Refusal;
 use crate::text::replace_pair;
-use crate::unicode::{CharLen, Decoded};
+use crate::unicode::{ByteLen, CharLen};
 use crate::{nfd, reply, unicode};
 
 // R1 and R2: c and the last starter of s give way to their composite, in the starter's place, unless c is blocked from it or they have none.
@@ -29,11 +29,11 @@ fn absorb(s: &mut [u16], c: u16) -> bool
         let before = nfd::class_of(b);
         if before == 0 {
             match ucd::composite(b, c) {
-                ucd::Made::Point(p) => {
+                Some(p) => {
                     s[i] = p;
                     return true;
                 }
-                ucd::Made::Nothing => {
+                None => {
                     return false;
                 }
             }
@@ -64,28 +64,21 @@ pub(crate) fn compose(s: &mut [u16]) -> usize
     n
 }
 
-// What normalising answers: how many code points the NFC has, or that the buffer might not hold it.
-#[derive(Clone, Copy)]
-pub enum Normalised {
-    Done(CharLen),
-    NoRoom,
-}
-
 // NFC of the code points `s`, at the front of `out`. The buffer has to have three places for each, where their NFD is made.
-pub fn normalise(s: &[u16], out: &mut [u16]) -> Normalised
+pub fn normalise(s: &[u16], out: &mut [u16]) -> Option<CharLen>
     ensures { Normalising unicode16 s.now out.old out.new result }
 {
     if out.len() / 3 < s.len() {
-        return Normalised::NoRoom;
+        return None;
     }
     let n = unicode::decompose(s, out);
     nfd::order(&mut out[0..n]);
     let m = compose(&mut out[0..n]);
-    Normalised::Done(CharLen(m))
+    Some(CharLen(m))
 }
 
 // NFC of the code points `s`, made in `work`, with each `a` `b` in it exchanged, in `out`.
-fn place_in(s: &[u16], a: u16, b: u16, work: &mut [u16], out: &mut [u8]) -> TextAnswer
+fn place_in(s: &[u16], a: u16, b: u16, work: &mut [u16], out: &mut [u8]) -> Result<ByteLen, Refusal>
     requires { 3 * length s.now ≤ length work.old }
     ensures { text_reply result out.new ≡ placed 0 (encode (exchanged a b (nfc unicode16 s.now))) out.old }
 {
@@ -97,7 +90,7 @@ fn place_in(s: &[u16], a: u16, b: u16, work: &mut [u16], out: &mut [u8]) -> Text
 }
 
 // NFC of the code points `s`, with each `a` `b` in it exchanged, in `out`. Short texts are normalised in a small buffer, since clearing it is quicker.
-pub fn place_exchanged(s: &[u16], a: u16, b: u16, out: &mut [u8]) -> TextAnswer
+pub fn place_exchanged(s: &[u16], a: u16, b: u16, out: &mut [u8]) -> Result<ByteLen, Refusal>
     ensures { text_reply result out.new ≡ exchanged_call unicode16 a b s.now out.old }
 {
     if s.len() <= 24 {
@@ -108,11 +101,11 @@ pub fn place_exchanged(s: &[u16], a: u16, b: u16, out: &mut [u8]) -> TextAnswer
         let mut work = [0u16; 3072];
         return place_in(s, a, b, &mut work, out);
     }
-    TextAnswer::Refused(Refusal::TooLong)
+    Err(Refusal::TooLong)
 }
 
 // Composes `s`, which is in NFD, and writes it to `out`.
-fn place_composed(s: &mut [u16], out: &mut [u8]) -> TextAnswer
+fn place_composed(s: &mut [u16], out: &mut [u8]) -> Result<ByteLen, Refusal>
     ensures { text_reply result out.new ≡ placed 0 (encode (compose unicode16 s.old)) out.old }
 {
     let n = compose(s);
@@ -120,15 +113,11 @@ fn place_composed(s: &mut [u16], out: &mut [u8]) -> TextAnswer
 }
 
 // NFC of `text`, in `out`.
-pub fn to_nfc(text: &[u8], out: &mut [u8]) -> TextAnswer
+pub fn to_nfc(text: &[u8], out: &mut [u8]) -> Result<ByteLen, Refusal>
     ensures { text_reply result out.new ≡ text_call unicode16 (nfc unicode16) text.now out.old }
 {
     let mut points = [0u16; 384];
-    match nfd::read_nfd(text, &mut points) {
-        Decoded::Refused(why) => TextAnswer::Refused(why),
-        Decoded::Points(len) => {
-            let n = len.0;
-            place_composed(&mut points[0..n], out)
-        }
-    }
+    let len = nfd::read_nfd(text, &mut points)?;
+    let n = len.0;
+    place_composed(&mut points[0..n], out)
 }

@@ -6,8 +6,8 @@ ghost use Rattle.ji.specs.Reply.{text_call, text_reply};
 ghost use Rattle.ji.specs.Reading.{NfdReading};
 ghost use Rattle.ji.specs.Nfd.{Ordered, insert, order, nfd};
 
-use crate::reply::{Refusal, TextAnswer};
-use crate::unicode::{CharLen, Decoded};
+use crate::reply::Refusal;
+use crate::unicode::{ByteLen, CharLen};
 use crate::{reply, unicode};
 
 // The combining class of c. What stands below U+0300 is a starter, and most texts hold little else: it needs no lookup.
@@ -90,33 +90,25 @@ pub(crate) fn order(s: &mut [u16])
 }
 
 // Reads `text` into `points`, in NFD.
-pub(crate) fn read_nfd(text: &[u8], points: &mut [u16]) -> Decoded
+pub(crate) fn read_nfd(text: &[u8], points: &mut [u16]) -> Result<CharLen, Refusal>
     requires { 384 ≤ length points.old }
     ensures { NfdReading unicode16 text.now points.old points.new result }
 {
     if 256 < text.len() {
-        return Decoded::Refused(Refusal::TooLong);
+        return Err(Refusal::TooLong);
     }
-    match unicode::decode(text, true, points) {
-        Decoded::Refused(why) => Decoded::Refused(why),
-        Decoded::Points(len) => {
-            let n = len.0;
-            order(&mut points[0..n]);
-            Decoded::Points(CharLen(n))
-        }
-    }
+    let len = unicode::decode(text, true, points)?;
+    let n = len.0;
+    order(&mut points[0..n]);
+    Ok(CharLen(n))
 }
 
 // NFD of `text`, in `out`.
-pub fn to_nfd(text: &[u8], out: &mut [u8]) -> TextAnswer
+pub fn to_nfd(text: &[u8], out: &mut [u8]) -> Result<ByteLen, Refusal>
     ensures { text_reply result out.new ≡ text_call unicode16 (nfd unicode16) text.now out.old }
 {
     let mut points = [0u16; 384];
-    match read_nfd(text, &mut points) {
-        Decoded::Refused(why) => TextAnswer::Refused(why),
-        Decoded::Points(len) => {
-            let n = len.0;
-            reply::place(&points[0..n], out)
-        }
-    }
+    let len = read_nfd(text, &mut points)?;
+    let n = len.0;
+    reply::place(&points[0..n], out)
 }

@@ -8,50 +8,37 @@ use crate::unicode::ByteLen;
 use crate::utf8;
 
 // Why a call is refused.
-#[derive(Clone, Copy)]
+#[derive(Clone, Copy, PartialEq, Eq)]
 pub enum Refusal {
-    Argument,
-    TooLong,
-    IllFormed,
-    OutsideTable,
-    Parts,
-    Position,
-    NoRoom,
+    Argument = 1,
+    TooLong = 2,
+    IllFormed = 3,
+    OutsideTable = 4,
+    Parts = 5,
+    Position = 6,
+    NoRoom = 7,
 }
 
-// The number of a refusal.
-pub fn number(why: Refusal) -> u64
-    ensures { result ≡ refusal_number why }
-{
-    match why {
-        Refusal::Argument => 1,
-        Refusal::TooLong => 2,
-        Refusal::IllFormed => 3,
-        Refusal::OutsideTable => 4,
-        Refusal::Parts => 5,
-        Refusal::Position => 6,
-        Refusal::NoRoom => 7,
+impl Refusal {
+    // The number of a refusal.
+    pub fn number(self) -> u64
+        ensures { result ≡ refusal_number self }
+    {
+        self as u64
     }
-}
-
-// What a call answers that gives one text: the text's length, or why it is refused.
-#[derive(Clone, Copy)]
-pub enum TextAnswer {
-    Done(ByteLen),
-    Refused(Refusal),
 }
 
 // Writes the text `s` to `out`, if there is room for all of it. A code point has three bytes at most, so that most buffers need no counting.
-pub fn place(s: &[u16], out: &mut [u8]) -> TextAnswer
+pub fn place(s: &[u16], out: &mut [u8]) -> Result<ByteLen, Refusal>
     ensures { text_reply result out.new ≡ placed 0 (encode s.now) out.old }
 {
     if s.len() <= out.len() / 3 {
-        return TextAnswer::Done(utf8::encode(s, out));
+        return Ok(utf8::encode(s, out));
     }
     if utf8::fits(s, out.len()) {
-        return TextAnswer::Done(utf8::encode(s, out));
+        return Ok(utf8::encode(s, out));
     }
-    TextAnswer::Refused(Refusal::NoRoom)
+    Err(Refusal::NoRoom)
 }
 
 // Copies the bytes `s` to the front of `out`, one after the other.
@@ -111,33 +98,38 @@ pub(crate) fn copy(s: &[u8], out: &mut [u8])
 }
 
 // Writes the bytes `s` of a text to `out`, if there is room for all of them.
-pub fn place_bytes(s: &[u8], out: &mut [u8]) -> TextAnswer
+pub fn place_bytes(s: &[u8], out: &mut [u8]) -> Result<ByteLen, Refusal>
     ensures { text_reply result out.new ≡ placed 0 s.now out.old }
 {
     if out.len() < s.len() {
-        return TextAnswer::Refused(Refusal::NoRoom);
+        return Err(Refusal::NoRoom);
     }
     copy(s, out);
-    TextAnswer::Done(ByteLen(s.len()))
+    Ok(ByteLen(s.len()))
 }
 
 // Writes the bytes `before`, the code point `x` and the bytes `after` to `out`, if there is room for all of them.
-pub fn place_between(before: &[u8], x: u16, after: &[u8], out: &mut [u8]) -> TextAnswer
+pub fn place_between(
+    before: &[u8],
+    x: u16,
+    after: &[u8],
+    out: &mut [u8],
+) -> Result<ByteLen, Refusal>
     ensures { text_reply result out.new ≡ placed 0 (before.now ++ (bytes_of x ++ after.now)) out.old }
 {
     let size = utf8::byte_count(x);
     if out.len() < before.len() {
-        return TextAnswer::Refused(Refusal::NoRoom);
+        return Err(Refusal::NoRoom);
     }
     let left = out.len() - before.len();
     if left < size {
-        return TextAnswer::Refused(Refusal::NoRoom);
+        return Err(Refusal::NoRoom);
     }
     if left - size < after.len() {
-        return TextAnswer::Refused(Refusal::NoRoom);
+        return Err(Refusal::NoRoom);
     }
     copy(before, out);
     let at = utf8::put_point(x as u32, out, before.len());
     copy(after, &mut out[at..]);
-    TextAnswer::Done(ByteLen(at + after.len()))
+    Ok(ByteLen(at + after.len()))
 }

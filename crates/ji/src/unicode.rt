@@ -24,20 +24,6 @@ pub struct ByteLen(pub usize);
 #[derive(Clone, Copy)]
 pub struct CharLen(pub usize);
 
-// What reading a text gives: its code points in the buffer, or why it is refused.
-#[derive(Clone, Copy)]
-pub enum Decoded {
-    Points(CharLen),
-    Refused(Refusal),
-}
-
-// Whether a text is one of the table: it is, or why it is refused.
-#[derive(Clone, Copy)]
-pub enum Verdict {
-    Good,
-    Refused(Refusal),
-}
-
 // What a code point becomes: itself, or its full decomposition, which has at most three.
 #[derive(Clone, Copy)]
 enum Spread {
@@ -111,7 +97,7 @@ fn fault_at(s: &[u8], at: usize) -> Refusal
 }
 
 // The code points of `s`, as they are or fully decomposed, written to the front of `out`.
-pub(crate) fn decode(s: &[u8], decomposed: bool, out: &mut [u16]) -> Decoded
+pub(crate) fn decode(s: &[u8], decomposed: bool, out: &mut [u16]) -> Result<CharLen, Refusal>
     requires { length (spread unicode16 decomposed (accepted unicode16 s.now)) ≤ length out.old }
     ensures { Reading unicode16 decomposed s.now out.old out.new result }
 {
@@ -126,18 +112,18 @@ pub(crate) fn decode(s: &[u8], decomposed: bool, out: &mut [u16]) -> Decoded
             let sequence = utf8::read(s, i);
             let width = sequence.width;
             if width == 0 {
-                return Decoded::Refused(Refusal::IllFormed);
+                return Err(Refusal::IllFormed);
             }
             let point = sequence.point;
             if ucd::is_member(point) {
                 n = put(spread_point(point as u16, decomposed), out, n);
                 i += width;
             } else {
-                return Decoded::Refused(fault_at(s, i));
+                return Err(fault_at(s, i));
             }
         }
     }
-    Decoded::Points(CharLen(n))
+    Ok(CharLen(n))
 }
 
 // Whether all bytes of `s` are ASCII. What is made of such a text needs no table.
@@ -169,29 +155,29 @@ fn widen(s: &[u8], out: &mut [u16]) -> usize
 
 // The code points of `text`, as they are, read into a buffer of our own, which has three places for every two bytes. A text that is refused may leave
 // some there.
-pub(crate) fn read_points(text: &[u8], out: &mut [u16]) -> Decoded
+pub(crate) fn read_points(text: &[u8], out: &mut [u16]) -> Result<CharLen, Refusal>
     requires { length text.now ≤ length out.old / 3 * 2 }
     ensures { Reading unicode16 false text.now out.old out.new result }
 {
     if is_ascii(text) {
-        return Decoded::Points(CharLen(widen(text, out)));
+        return Ok(CharLen(widen(text, out)));
     }
     decode(text, false, out)
 }
 
 // The code points of `text`, as they are, at the front of `out`, which has to have three places for every two bytes. A text that is refused leaves its
 // code points before the fault there: `code_points` writes none, and asks for no more room than the code points take.
-pub fn points(text: &[u8], out: &mut [u16]) -> Decoded
+pub fn points(text: &[u8], out: &mut [u16]) -> Result<CharLen, Refusal>
     ensures { PointsReading unicode16 text.now out.old out.new result }
 {
     if out.len() / 3 * 2 < text.len() {
-        return Decoded::Refused(Refusal::NoRoom);
+        return Err(Refusal::NoRoom);
     }
     read_points(text, out)
 }
 
 // How many code points the bytes `s` have, or which of the two refusals they get.
-fn count_points(s: &[u8]) -> Decoded
+fn count_points(s: &[u8]) -> Result<CharLen, Refusal>
     ensures { Counting unicode16 s.now result }
 {
     let mut i: usize = 0;
@@ -204,68 +190,60 @@ fn count_points(s: &[u8]) -> Decoded
             let sequence = utf8::read(s, i);
             let width = sequence.width;
             if width == 0 {
-                return Decoded::Refused(Refusal::IllFormed);
+                return Err(Refusal::IllFormed);
             }
             if ucd::is_member(sequence.point) {
                 i += width;
                 n += 1;
             } else {
-                return Decoded::Refused(fault_at(s, i));
+                return Err(fault_at(s, i));
             }
         }
     }
-    Decoded::Points(CharLen(n))
+    Ok(CharLen(n))
 }
 
 // Writes the code points `s` to `out`, if there is room for all of them.
-fn place_points(s: &[u16], out: &mut [u16]) -> Decoded
+fn place_points(s: &[u16], out: &mut [u16]) -> Result<CharLen, Refusal>
     ensures { points_reply result out.new ≡ placed 0 s.now out.old }
 {
     if out.len() < s.len() {
-        return Decoded::Refused(Refusal::NoRoom);
+        return Err(Refusal::NoRoom);
     }
-    Decoded::Points(CharLen(text::put(s, out, 0)))
+    Ok(CharLen(text::put(s, out, 0)))
 }
 
 // The code points of a short text, read into a buffer of our own first, so that a refusal writes nothing.
-fn short_points(text: &[u8], out: &mut [u16]) -> Decoded
+fn short_points(text: &[u8], out: &mut [u16]) -> Result<CharLen, Refusal>
     requires { length text.now ≤ 16 }
     ensures { points_reply result out.new ≡ points_call unicode16 text.now out.old }
 {
     let mut read = [0u16; 24];
-    match decode(text, false, &mut read) {
-        Decoded::Refused(why) => Decoded::Refused(why),
-        Decoded::Points(len) => {
-            let n = len.0;
-            place_points(&read[0..n], out)
-        }
-    }
+    let len = decode(text, false, &mut read)?;
+    let n = len.0;
+    place_points(&read[0..n], out)
 }
 
 // The code points of any text, counted first, so that a refusal writes nothing.
-fn long_points(text: &[u8], out: &mut [u16]) -> Decoded
+fn long_points(text: &[u8], out: &mut [u16]) -> Result<CharLen, Refusal>
     ensures { points_reply result out.new ≡ points_call unicode16 text.now out.old }
 {
-    match count_points(text) {
-        Decoded::Refused(why) => Decoded::Refused(why),
-        Decoded::Points(len) => {
-            if out.len() < len.0 {
-                return Decoded::Refused(Refusal::NoRoom);
-            }
-            decode(text, false, out)
-        }
+    let len = count_points(text)?;
+    if out.len() < len.0 {
+        return Err(Refusal::NoRoom);
     }
+    decode(text, false, out)
 }
 
 // The code points of `text`, as they are, in `out`. A refusal writes nothing.
-pub fn code_points(text: &[u8], out: &mut [u16]) -> Decoded
+pub fn code_points(text: &[u8], out: &mut [u16]) -> Result<CharLen, Refusal>
     ensures { points_reply result out.new ≡ points_call unicode16 text.now out.old }
 {
     if is_ascii(text) {
         if out.len() < text.len() {
-            return Decoded::Refused(Refusal::NoRoom);
+            return Err(Refusal::NoRoom);
         }
-        return Decoded::Points(CharLen(widen(text, out)));
+        return Ok(CharLen(widen(text, out)));
     }
     if text.len() <= 16 {
         return short_points(text, out);
@@ -274,24 +252,22 @@ pub fn code_points(text: &[u8], out: &mut [u16]) -> Decoded
 }
 
 // Whether the bytes `s` are a text of the table, or which of the two refusals they get.
-fn check_points(s: &[u8]) -> Verdict
+fn check_points(s: &[u8]) -> Result<(), Refusal>
     ensures { result ≡ verdict_of (check_points unicode16 (decode s.now)) }
 {
-    match count_points(s) {
-        Decoded::Refused(why) => Verdict::Refused(why),
-        Decoded::Points(_) => Verdict::Good,
-    }
+    let _ = count_points(s)?;
+    Ok(())
 }
 
 // Whether `text` is a text of the table of at most `limit` bytes.
-pub fn check(text: &[u8], limit: usize) -> Verdict
+pub fn check(text: &[u8], limit: usize) -> Result<(), Refusal>
     ensures { result ≡ verdict_of (check_within unicode16 limit text.now) }
 {
     if limit < text.len() {
-        return Verdict::Refused(Refusal::TooLong);
+        return Err(Refusal::TooLong);
     }
     if is_ascii(text) {
-        return Verdict::Good;
+        return Ok(());
     }
     check_points(text)
 }

@@ -6,12 +6,11 @@ use Rattle.ji.specs.Text.{points, marked, point, lower, begins, all_ascii}
 use Rattle.ji.specs.Reply.{Reply, text_reply}
 use Rattle.ji.specs.Lomaji.Keys.{respell}
 use Rattle.ji.specs.declared.reply.Refusal.TheVariants.{NoRoom}
-use Rattle.ji.specs.declared.reply.TextAnswer.{TextAnswer}
-use Rattle.ji.specs.declared.reply.TextAnswer.TheVariants.{Done, Refused}
 use Rattle.khiin.specs.Syllable.{vowel_rules, o_rules, ends_nasal, nasalised, moved}
-use Rattle.khiin.specs.declared.syllable.marking.Mark.{Mark}
-use Rattle.khiin.specs.declared.syllable.marking.Mark.TheVariants.{Nothing, Point}
 use Rattle.khiin.specs.declared.syllable.compose.Settled.{Settled}
+use Rattle.std.specs.Prelude.{Result, Ok, Err, Some, Option, None}
+use Rattle.ji.specs.declared.unicode.ByteLen.{ByteLen}
+use Rattle.ji.specs.declared.reply.Refusal.{Refusal}
 
 -- the text s stands at the front of a buffer, and has n elements; what is behind it is left open
 pub record Front (buffer : List ℕ) (n : ℕ) (s : List ℕ) : Type 0 where
@@ -19,14 +18,14 @@ pub record Front (buffer : List ℕ) (n : ℕ) (s : List ℕ) : Type 0 where
   pub size : length s ≡ n
 
 -- the answer that a number stands for: one more than the length of the text that was written, or 0 where there was no room
-abbrev pub answer_of : ℕ → TextAnswer
-answer_of zero = Refused NoRoom
-answer_of (suc n) = Done (record { 0 = n })
+abbrev pub answer_of : ℕ → Result ByteLen Refusal
+answer_of zero = Err NoRoom
+answer_of (suc n) = Ok (record { 0 = n })
 
 -- a mark as the code has it
-abbrev pub mark_text : Mark → List ℕ
-mark_text Nothing = []
-mark_text (Point m) = m ∷ []
+abbrev pub mark_text : Option ℕ → List ℕ
+mark_text None = []
+mark_text (Some m) = m ∷ []
 
 -- a text begins with two letters that one of the vowel rules replaces
 unfoldable pub is_pair : List ℕ → Bool

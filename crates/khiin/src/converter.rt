@@ -14,13 +14,12 @@ use crate::syllable::marking::answer;
 use crate::syllable::plain::compose_plain;
 use ji::lomaji::khin::Khin;
 use ji::lomaji::strip;
-use ji::lomaji::strip::Strip;
 use ji::lomaji::tone_letter::holds_letter;
-use ji::reply::{Refusal, TextAnswer};
+use ji::reply::Refusal;
 use ji::text::lower;
 use ji::tone::Tone;
-use ji::unicode::Decoded;
-use ji::{reply, tone, unicode};
+use ji::unicode::ByteLen;
+use ji::{reply, unicode};
 
 // How tone keys are chosen.
 #[derive(Clone, Copy)]
@@ -326,7 +325,7 @@ fn edit_of(k: ToneKeys, key: u16, tone: Tone, text: &[u8]) -> Edit
 }
 
 // Writes the first `at` bytes of `bytes`, and the key behind them.
-fn place_key(bytes: &mut [u8], at: usize, key: u8, out: &mut [u8]) -> TextAnswer
+fn place_key(bytes: &mut [u8], at: usize, key: u8, out: &mut [u8]) -> Result<ByteLen, Refusal>
     requires { at < length bytes.old }
     ensures { text_reply result out.new ≡ placed 0 (take at bytes.old ++ (key ∷ [])) out.old }
 {
@@ -348,7 +347,7 @@ fn without_last(bytes: &[u8], n: usize) -> usize
 fn takes_tone(tone: Tone, rest: &[u16]) -> bool
     ensures { result ≡ (not (is_first tone) || is_some (tone_letter rest.now)) }
 {
-    if tone::number(tone) != 1 {
+    if tone.number() != 1 {
         return true;
     }
     holds_letter(rest)
@@ -369,7 +368,7 @@ fn typed(k: ToneKeys, key: u16, tone: Tone, whole: &[u16], n: usize, len: usize)
     if takes_tone(tone, &whole[0..n]) {
         let low = lower(key);
         let named = key_to_tone(k, low);
-        if tone::is_tone(named) {
+        if named.is_tone() {
             return Body {
                 len: n,
                 tone: shared_or(k, low, named, &whole[0..n]),
@@ -406,7 +405,7 @@ fn compose_step(
     points: &mut [u16],
     n: usize,
     out: &mut [u8],
-) -> TextAnswer
+) -> Result<ByteLen, Refusal>
     requires { (n < 400) × (n + 2 < length points.old) × (raw.now ≡ encode (take n points.old ++ (key ∷ []))) }
     ensures { text_reply result out.new ≡ placed 0 (encode (composed_of unicode16 k key tone (take n points.old))) out.old }
 {
@@ -431,19 +430,15 @@ fn compose_in(
     n: usize,
     points: &mut [u16],
     out: &mut [u8],
-) -> TextAnswer
+) -> Result<ByteLen, Refusal>
     requires { (key ≤ 0x7F) × (n < length bytes.old) × (n ≤ length points.old) × (n + 2 < length points.old) × RestIn bytes.old n }
     ensures { (h : RestIn bytes.old n) → text_reply result out.new ≡ placed 0 (encode (composed_of unicode16 k key tone h.rest)) out.old }
 {
-    match unicode::code_points(&bytes[0..n], points) {
-        Decoded::Refused(why) => TextAnswer::Refused(why),
-        Decoded::Points(count) => {
-            let m = count.0;
-            bytes[n] = key;
-            let end = n + 1;
-            compose_step(k, key as u16, tone, &bytes[0..end], points, m, out)
-        }
-    }
+    let count = unicode::code_points(&bytes[0..n], points)?;
+    let m = count.0;
+    bytes[n] = key;
+    let end = n + 1;
+    compose_step(k, key as u16, tone, &bytes[0..end], points, m, out)
 }
 
 // Writes what a branch makes of the stripped text, the first `n` of `bytes`.
@@ -456,7 +451,7 @@ fn finish(
     n: usize,
     points: &mut [u16],
     out: &mut [u8],
-) -> TextAnswer
+) -> Result<ByteLen, Refusal>
     requires { (key ≤ 0x7F) × (n + 1 < length bytes.old) × (n ≤ length points.old) × (n + 2 < length points.old) × RestIn bytes.old n }
     ensures { (h : RestIn bytes.old n) → text_reply result out.new ≡ placed 0 (encode (edited unicode16 k edit key tone h.rest)) out.old }
 {
@@ -501,7 +496,7 @@ fn step_in(
     bytes: &mut [u8],
     points: &mut [u16],
     out: &mut [u8],
-) -> TextAnswer
+) -> Result<ByteLen, Refusal>
     requires { (key ≤ 0x7F) × (length text.now ≤ 256) × (5 * length text.now + 4 ≤ 2 * length bytes.old) × (length bytes.old ≤ length points.old) × (length bytes.old + 1 < length points.old) }
     ensures { text_reply result out.new ≡ text_call unicode16 (step_of unicode16 k key) text.now out.old }
 {
@@ -512,10 +507,10 @@ fn step_in(
         tone = strip::unmarked_tone(&bytes[0..n]);
     } else {
         match strip::strip_tone_diacritic(&text[0..n], bytes) {
-            Strip::Refused(why) => {
-                return TextAnswer::Refused(why);
+            Err(why) => {
+                return Err(why);
             }
-            Strip::Done(result) => {
+            Ok(result) => {
                 let len = result.len;
                 n = len.0;
                 tone = result.tone;
@@ -528,7 +523,7 @@ fn step_in(
 
 // In buffers for a text of at most 8 bytes, as a syllable is: clearing small ones is quicker. A stripped text has at most five bytes for each two of
 // the text, and the key takes one more.
-fn step_short(k: ToneKeys, key: u8, text: &[u8], out: &mut [u8]) -> TextAnswer
+fn step_short(k: ToneKeys, key: u8, text: &[u8], out: &mut [u8]) -> Result<ByteLen, Refusal>
     requires { (key ≤ 0x7F) × (length text.now ≤ 8) }
     ensures { text_reply result out.new ≡ text_call unicode16 (step_of unicode16 k key) text.now out.old }
 {
@@ -538,7 +533,7 @@ fn step_short(k: ToneKeys, key: u8, text: &[u8], out: &mut [u8]) -> TextAnswer
 }
 
 // In buffers for a text of at most 256 bytes.
-fn step_long(k: ToneKeys, key: u8, text: &[u8], out: &mut [u8]) -> TextAnswer
+fn step_long(k: ToneKeys, key: u8, text: &[u8], out: &mut [u8]) -> Result<ByteLen, Refusal>
     requires { (key ≤ 0x7F) × (length text.now ≤ 256) }
     ensures { text_reply result out.new ≡ text_call unicode16 (step_of unicode16 k key) text.now out.old }
 {
@@ -554,17 +549,17 @@ pub fn convert_to_telex(
     mode: ToneMode,
     keys: ToneKeys,
     out: &mut [u8],
-) -> TextAnswer
+) -> Result<ByteLen, Refusal>
     ensures { text_reply result out.new ≡ telex_call unicode16 mode keys key text.now out.old }
 {
     if key < 0x20 {
-        return TextAnswer::Refused(Refusal::Argument);
+        return Err(Refusal::Argument);
     }
     if 0x7E < key {
-        return TextAnswer::Refused(Refusal::Argument);
+        return Err(Refusal::Argument);
     }
     if !settings_fit(keys) {
-        return TextAnswer::Refused(Refusal::Argument);
+        return Err(Refusal::Argument);
     }
     let k = keys_in(mode, keys);
     if text.len() <= 8 {
@@ -573,5 +568,5 @@ pub fn convert_to_telex(
     if text.len() <= 256 {
         return step_long(k, key, text, out);
     }
-    TextAnswer::Refused(Refusal::TooLong)
+    Err(Refusal::TooLong)
 }

@@ -9,8 +9,9 @@ use Rattle.ji.specs.declared.reply.Refusal.TheVariants.{Parts, Position, NoRoom}
 use Rattle.ji.specs.declared.lomaji.keys.Form.TheVariants.{Plain, Oo}
 use Rattle.ji.specs.declared.lomaji.keys.Kind.{Kind}
 use Rattle.ji.specs.declared.lomaji.keys.Kind.TheVariants.{Detoned, Numeric, Telex}
-use Rattle.khiin_entries.specs.declared.key_sequence.Keying.{Keying}
-use Rattle.khiin_entries.specs.declared.key_sequence.Keying.TheVariants.{Done, Refused}
+use Rattle.std.specs.Prelude.{Result, Ok, Err}
+use Rattle.ji.specs.declared.reply.Refusal.{Refusal}
+use Rattle.khiin_entries.specs.declared.key_sequence.KeyingResult.{KeyingResult}
 
 abbrev pub pick_texts : Bool → List (List ℕ) → List (List ℕ) → List (List ℕ)
 pick_texts true a b = a
@@ -101,7 +102,7 @@ module _ (t : Table) where
   keying_call entry kind position buffer = keying_of kind (check_entry entry) position buffer
 
 -- the code's answer, and what it leaves in the buffer, as a reply
-abbrev pub keying_reply : Keying → List ℕ → Reply
-keying_reply (Done r) buffer =
+abbrev pub keying_reply : Result KeyingResult Refusal → List ℕ → Reply
+keying_reply (Ok r) buffer =
     record { code = 0; length = r.len.0; count = r.count; body = 0; tone = 0; khin = 0; position = 0; buffer = buffer }
-keying_reply (Refused why) buffer = refused why buffer
+keying_reply (Err why) buffer = refused why buffer

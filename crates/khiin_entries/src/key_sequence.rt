@@ -10,22 +10,15 @@ ghost use Rattle.khiin_entries.specs.KeySequence.{keying_call, keying_reply};
 use ji::lomaji::dot::holds_dot;
 use ji::lomaji::keys;
 use ji::lomaji::keys::{Form, Kind};
-use ji::reply::{Refusal, TextAnswer};
+use ji::reply::Refusal;
 use ji::unicode;
-use ji::unicode::{ByteLen, Verdict};
+use ji::unicode::ByteLen;
 
 // The length of a keying, and how many the list has.
 #[derive(Clone, Copy)]
 pub struct KeyingResult {
     pub len: ByteLen,
     pub count: u64,
-}
-
-// What the call answers.
-#[derive(Clone, Copy)]
-pub enum Keying {
-    Done(KeyingResult),
-    Refused(Refusal),
 }
 
 // Where the part that starts at `at` ends: at the next space, or at the end of the entry.
@@ -70,8 +63,8 @@ fn put_form(part: &[u8], form: Form, kind: Kind, forms: &mut [u8], at: usize) ->
     ensures { (result ≡ at + length (form_bytes unicode16 form kind part.now)) × (forms.new ≡ paste forms.old at (form_bytes unicode16 form kind part.now) (length (form_bytes unicode16 form kind part.now))) }
 {
     match keys::keys(part, form, kind, &mut forms[at..]) {
-        TextAnswer::Done(len) => at + len.0,
-        TextAnswer::Refused(_) => at,
+        Ok(len) => at + len.0,
+        Err(_) => at,
     }
 }
 
@@ -366,20 +359,20 @@ fn place(
     parts: usize,
     position: u64,
     out: &mut [u8],
-) -> Keying
+) -> Result<KeyingResult, Refusal>
     requires { (parts ≤ 16) × Laid offsets lengths radices parts (length forms.now) }
     ensures { keying_reply result out.new ≡ laid_reply (count_in radices parts) (keying_in forms.now offsets lengths radices parts position) position out.old }
 {
     let count = count_of(&radices, parts);
     if count <= position {
-        return Keying::Refused(Refusal::Position);
+        return Err(Refusal::Position);
     }
     let n = length_at(&lengths, &radices, parts, position);
     if out.len() < n {
-        return Keying::Refused(Refusal::NoRoom);
+        return Err(Refusal::NoRoom);
     }
     write_at(forms, &offsets, &lengths, &radices, parts, position, out, n);
-    Keying::Done(KeyingResult {
+    Ok(KeyingResult {
         len: ByteLen(n),
         count: count,
     })
@@ -393,7 +386,7 @@ fn keying_in(
     position: u64,
     forms: &mut [u8],
     out: &mut [u8],
-) -> Keying
+) -> Result<KeyingResult, Refusal>
     requires { Entry entry.now parts × (5 * length entry.now + 32 ≤ length forms.old) × (length forms.old ≤ 65535) }
     ensures { keying_reply result out.new ≡ keying_call unicode16 entry.now kind position out.old }
 {
@@ -405,7 +398,13 @@ fn keying_in(
 
 // A form has at most five bytes for each two of its part, and one more, and a part has two forms. Entries of at most 32 bytes, as most have, go in a
 // small buffer: clearing it is quicker.
-fn keying_of(entry: &[u8], parts: usize, kind: Kind, position: u64, out: &mut [u8]) -> Keying
+fn keying_of(
+    entry: &[u8],
+    parts: usize,
+    kind: Kind,
+    position: u64,
+    out: &mut [u8],
+) -> Result<KeyingResult, Refusal>
     requires { Entry entry.now parts }
     ensures { keying_reply result out.new ≡ keying_call unicode16 entry.now kind position out.old }
 {
@@ -418,17 +417,18 @@ fn keying_of(entry: &[u8], parts: usize, kind: Kind, position: u64, out: &mut [u
 }
 
 // The keying of an entry at a position of the list of a kind, in `out`.
-pub fn keying_at(entry: &[u8], kind: Kind, position: u64, out: &mut [u8]) -> Keying
+pub fn keying_at(
+    entry: &[u8],
+    kind: Kind,
+    position: u64,
+    out: &mut [u8],
+) -> Result<KeyingResult, Refusal>
     ensures { keying_reply result out.new ≡ keying_call unicode16 entry.now kind position out.old }
 {
-    match unicode::check(entry, 1024) {
-        Verdict::Refused(why) => Keying::Refused(why),
-        Verdict::Good => {
-            let parts = count_parts(entry);
-            if parts == 0 {
-                return Keying::Refused(Refusal::Parts);
-            }
-            keying_of(entry, parts, kind, position, out)
-        }
+    unicode::check(entry, 1024)?;
+    let parts = count_parts(entry);
+    if parts == 0 {
+        return Err(Refusal::Parts);
     }
+    keying_of(entry, parts, kind, position, out)
 }

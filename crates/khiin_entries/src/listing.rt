@@ -12,8 +12,8 @@ use crate::key_sequence::{count_of, count_parts, lay_parts, length_at, part_end,
 use ji::lomaji::dot::holds_dot;
 use ji::lomaji::keys::Kind;
 use ji::reply::Refusal;
-use ji::unicode::{ByteLen, Verdict};
-use ji::{reply, unicode};
+use ji::unicode;
+use ji::unicode::ByteLen;
 
 // How many bytes were written, and the number of the next line.
 #[derive(Clone, Copy)]
@@ -241,7 +241,7 @@ fn list_refusal(why: Refusal, from: u64, out: &mut [u8]) -> Listed
 {
     let mut line = [0u8; 29];
     put(b"refused ", &mut line, 0);
-    let number = reply::number(why);
+    let number = why.number();
     let end = put_number(number, digit_count(number), 0x0A, &mut line, 8);
     put_first(&line[0..end], from, out)
 }
@@ -353,8 +353,8 @@ pub fn list(entry: &[u8], from: u64, out: &mut [u8]) -> Listed
     ensures { (result.next ≡ from + length (shown unicode16 entry.now from (length out.old))) × (result.len.0 ≡ length (together (shown unicode16 entry.now from (length out.old)))) × (out.new ≡ over (together (shown unicode16 entry.now from (length out.old))) out.old) }
 {
     match unicode::check(entry, 1024) {
-        Verdict::Refused(why) => list_refusal(why, from, out),
-        Verdict::Good => {
+        Err(why) => list_refusal(why, from, out),
+        Ok(()) => {
             let parts = count_parts(entry);
             if parts == 0 {
                 return list_refusal(Refusal::Parts, from, out);

@@ -34,11 +34,11 @@ use Rattle.khiin_records.specs.Records.{RecordOf}
 use Rattle.ji.specs.Lomaji.Dot.{dot_in}
 use Rattle.khiin_records.specs.RawBytes.{Body, body_of, count_of, vowel_at}
 use Rattle.khiin_records.specs.declared.Record.{Record}
-use Rattle.khiin_records.specs.declared.Recorded.TheVariants.{Done}
 use Rattle.ji.proofs.lomaji.dot.Laws.{dot_listed}
 use Rattle.ji.proofs.unicode.Ascii.{ascii_bytes}
 use Rattle.khiin_records.proofs.Records.{digit_ascii, khin_ascii, record_done, candidates_two, candidates_one}
 use Rattle.khiin_records.proofs.RawBytes.{body_is}
+use Rattle.std.specs.Prelude.{Ok}
 
 -- ── the call, once the text is checked
 pub candidate_refused : (text : List ℕ) (position : ℕ) (buffer : List ℕ) (why : Refusal) → check_text unicode16 text ≡ bad why → refused why buffer ≡ candidate_call unicode16 text position buffer
@@ -113,7 +113,7 @@ module _ (t : Tone) (k : Khin) (u : List ℕ) (vowel : ℕ) (low : vowel < 0x80)
     raw_written =
         subst (Written buffer after (n + length keys)) (raw_bytes t k u vowel low) (rw is (written_run w keys room))
 
-    pub quick_done : (count : ℕ) (r : Record) → RecordOf count made (n + length keys) r → record_reply (Done r) after ≡ placed_record count made buffer
+    pub quick_done : (count : ℕ) (r : Record) → RecordOf count made (n + length keys) r → record_reply (Ok r) after ≡ placed_record count made buffer
     quick_done count r h =
         record_done count made (encode (raw made)) buffer refl (n + length keys) after r (placed_written 0 (encode (raw made)) buffer (n + length keys) after raw_written) h
 
@@ -138,7 +138,7 @@ module _ (t : Tone) (k : Khin) (u s : List ℕ) (e : s ≡ encode u) (buffer mid
 
   pub quick_answer : vowel ≡ vowel_at (dot_in s) position → (vowel ≡ 0 → ⊥) → Written buffer mid n (body_of vowel s).text → n ≤ length s → count ≡ count_of (body_of vowel s).dotted
       → len ≡ n + length (tone_digit t ++ khin_key k) → after ≡ paste mid n (tone_digit t ++ khin_key k) (length (tone_digit t ++ khin_key k)) → length s + 2 ≤ length buffer
-      → record_reply (Done given) after ≡ candidate_in (candidates_of t k u) position buffer
+      → record_reply (Ok given) after ≡ candidate_in (candidates_of t k u) position buffer
   quick_answer is some w short counted size pasted room =
       let dotted : listed u 0x0358 ≡ dot_in s = sym (ap dot_in e ∙ dot_listed u) in
       let low : vowel < 0x80 = omega (arith, is, vowel_low (dot_in s) position) in

@@ -28,7 +28,7 @@ use Rattle.ji.proofs.unicode.Bytes.{but_last_law, encode_append}
 use Rattle.khiin_records.specs.Syllable.{Syllable, raw, pick_syllable, tone_digits, key_tone, from_raw, check_keys, recorded, placed_record, record_reply, tone_digit, khin_key, candidate, pick_syllables, candidates_of, candidate_in}
 use Rattle.khiin_records.specs.Records.{RecordOf}
 use Rattle.khiin_records.specs.declared.Record.{Record}
-use Rattle.khiin_records.specs.declared.Recorded.TheVariants.{Done}
+use Rattle.std.specs.Prelude.{Ok}
 
 -- ── what a writer of the raw input left is the record's reply
 -- the reply that a text in the buffer makes
@@ -52,10 +52,10 @@ module _ (count : ℕ) (s : Syllable) (text buffer : List ℕ) (is_raw : encode 
       by_room true f = absurd (omega (arith, refusal_some why, ap (λ (r : Reply). r.code) (e ∙ ap out_of f)))
       by_room false f = e ∙ ap out_of f ∙ ap (λ (b : Bool). pick_reply b (recorded count s buffer) (refused NoRoom buffer)) (sym f) ∙ is_placed
 
-  pub record_done : (n : ℕ) (after : List ℕ) (r : Record) → text_in n after ≡ placed 0 text buffer → RecordOf count s n r → record_reply (Done r) after ≡ placed_record count s buffer
+  pub record_done : (n : ℕ) (after : List ℕ) (r : Record) → text_in n after ≡ placed 0 text buffer → RecordOf count s n r → record_reply (Ok r) after ≡ placed_record count s buffer
   record_done n after r e h = by_room fits refl
     where
-      by_room : (b : Bool) → fits ≡ b → record_reply (Done r) after ≡ placed_record count s buffer
+      by_room : (b : Bool) → fits ≡ b → record_reply (Ok r) after ≡ placed_record count s buffer
       by_room true f =
           let k = e ∙ ap out_of f in
           let size : n ≡ length (encode (raw s)) = ap (λ (q : Reply). q.length) k ∙ ap length (sym is_raw) in

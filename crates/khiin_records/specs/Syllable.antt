@@ -13,8 +13,9 @@ use Rattle.ji.specs.declared.tone.Tone.{Tone}
 use Rattle.ji.specs.declared.tone.Tone.TheVariants.{None, T1, T2, T3, T4, T5, T6, T7, T8, T9}
 use Rattle.ji.specs.declared.lomaji.khin.Khin.{Khin}
 use Rattle.ji.specs.declared.lomaji.khin.Khin.TheVariants.{No, Yes}
-use Rattle.khiin_records.specs.declared.Recorded.{Recorded}
-use Rattle.khiin_records.specs.declared.Recorded.TheVariants.{Done, Refused}
+use Rattle.std.specs.Prelude.{Result, Ok, Err}
+use Rattle.ji.specs.declared.reply.Refusal.{Refusal}
+use Rattle.khiin_records.specs.declared.Record.{Record}
 
 -- "A syllable record comes back as its raw input .., with the body's length (the body is always its beginning), tone and khin as numbers":
 -- the raw input is the body and the keys behind it
@@ -110,8 +111,8 @@ abbrev pub placed_record : ℕ → Syllable → List ℕ → Reply
 placed_record count s buffer = pick_reply (leb (length (encode (raw s))) (length buffer)) (recorded count s buffer) (refused NoRoom buffer)
 
 -- the code's answer, and what it leaves in the buffer, as a reply
-abbrev pub record_reply : Recorded → List ℕ → Reply
-record_reply (Done r) buffer =
+abbrev pub record_reply : Result Record Refusal → List ℕ → Reply
+record_reply (Ok r) buffer =
     record {
       code = 0;
       length = r.len.0;
@@ -122,7 +123,7 @@ record_reply (Done r) buffer =
       position = 0;
       buffer = buffer;
     }
-record_reply (Refused why) buffer = refused why buffer
+record_reply (Err why) buffer = refused why buffer
 
 -- "A raw-key text .. is checked for bytes above 7F instead; that is 4, and 3 is never given for it"
 unfoldable pub check_keys : List ℕ → Checked

@@ -11,17 +11,16 @@ ghost use Rattle.khiin_records.specs.RawBytes.{body_of};
 ghost use Rattle.khiin_records.specs.Alignment.{shared_prefix, nearest_of, aligned_with, align_of, align_call};
 ghost use Rattle.khiin_records.specs.Prefixes.{NearestPrefix};
 
-use crate::Recorded;
+use crate::Record;
 use crate::from_composed::{again, put_keys, spell};
 use crate::from_raw::place_keys;
 use ji::lomaji::dot::holds_dot;
 use ji::lomaji::khin::Khin;
-use ji::lomaji::strip::Strip;
 use ji::lomaji::{khin, strip};
 use ji::reply::Refusal;
 use ji::text::lower_byte;
 use ji::tone::Tone;
-use ji::{tone, unicode};
+use ji::unicode;
 
 // Whether two bytes are the same, ASCII case ignored. Most that are compared are the very same.
 fn same_key(a: u8, b: u8) -> bool
@@ -134,7 +133,7 @@ fn digits_prefix(keys: &[u8], at: usize, tone: Tone, khin: Khin) -> usize
     requires { (is_tone tone ≡ true) × (at ≤ length keys.now) }
     ensures { result ≡ shared_prefix (drop at keys.now) (tone_digit tone ++ khin_key khin) }
 {
-    if is_key_at(keys, at, 48 + tone::number(tone) as u8) {
+    if is_key_at(keys, at, 48 + tone.number() as u8) {
         1 + khin_prefix(keys, at + 1, khin)
     } else {
         0
@@ -173,7 +172,7 @@ fn tone_key_follows(keys: &[u8], prefix: usize, tone: Tone) -> bool
     ensures { result ≡ same (take 1 (drop (prefix + 1) keys.now)) (tone_digit tone) }
 {
     if prefix + 1 < keys.len() {
-        return keys[prefix + 1] == 48 + tone::number(tone) as u8;
+        return keys[prefix + 1] == 48 + tone.number() as u8;
     }
     false
 }
@@ -205,24 +204,25 @@ fn align_stripped(keys: &[u8], stripped: &[u8], tone: Tone) -> usize
 }
 
 // The record of the keys, checked already, that are aligned with a target that is not empty. `stripped` is used up.
-fn align_in(keys: &[u8], target: &[u8], stripped: &mut [u8], out: &mut [u8]) -> Recorded
+fn align_in(
+    keys: &[u8],
+    target: &[u8],
+    stripped: &mut [u8],
+    out: &mut [u8],
+) -> Result<Record, Refusal>
     requires { (all_ascii keys.now ≡ true) × (0 < length target.now) × (5 * length target.now ≤ 2 * length stripped.old) × (length stripped.old ≤ 640) }
     ensures { record_reply result out.new ≡ align_of unicode16 (good keys.now) (check_text unicode16 target.now) out.old }
 {
-    match strip::strip_tone_diacritic(target, stripped) {
-        Strip::Refused(why) => Recorded::Refused(why),
-        Strip::Done(result) => {
-            let len = result.len;
-            let n = len.0;
-            let tone = result.tone;
-            let count = align_stripped(keys, &stripped[0..n], tone);
-            place_keys(&keys[0..count], out)
-        }
-    }
+    let result = strip::strip_tone_diacritic(target, stripped)?;
+    let len = result.len;
+    let n = len.0;
+    let tone = result.tone;
+    let count = align_stripped(keys, &stripped[0..n], tone);
+    place_keys(&keys[0..count], out)
 }
 
 // A target of at most 16 bytes: clearing a small buffer is quicker.
-fn align_short(keys: &[u8], target: &[u8], out: &mut [u8]) -> Recorded
+fn align_short(keys: &[u8], target: &[u8], out: &mut [u8]) -> Result<Record, Refusal>
     requires { (all_ascii keys.now ≡ true) × (0 < length target.now) × (length target.now ≤ 16) }
     ensures { record_reply result out.new ≡ align_of unicode16 (good keys.now) (check_text unicode16 target.now) out.old }
 {
@@ -231,7 +231,7 @@ fn align_short(keys: &[u8], target: &[u8], out: &mut [u8]) -> Recorded
 }
 
 // A target of at most 256 bytes.
-fn align_long(keys: &[u8], target: &[u8], out: &mut [u8]) -> Recorded
+fn align_long(keys: &[u8], target: &[u8], out: &mut [u8]) -> Result<Record, Refusal>
     requires { (all_ascii keys.now ≡ true) × (0 < length target.now) × (length target.now ≤ 256) }
     ensures { record_reply result out.new ≡ align_of unicode16 (good keys.now) (check_text unicode16 target.now) out.old }
 {
@@ -240,7 +240,7 @@ fn align_long(keys: &[u8], target: &[u8], out: &mut [u8]) -> Recorded
 }
 
 // The record of the keys, checked already, that are aligned with a target. With the empty target, whose one candidate is the default, that is none.
-fn align(keys: &[u8], target: &[u8], out: &mut [u8]) -> Recorded
+fn align(keys: &[u8], target: &[u8], out: &mut [u8]) -> Result<Record, Refusal>
     requires { all_ascii keys.now ≡ true }
     ensures { record_reply result out.new ≡ align_of unicode16 (good keys.now) (check_text unicode16 target.now) out.old }
 {
@@ -251,19 +251,23 @@ fn align(keys: &[u8], target: &[u8], out: &mut [u8]) -> Recorded
     } else if target.len() <= 256 {
         again(align_long(keys, target, out))
     } else {
-        Recorded::Refused(Refusal::TooLong)
+        Err(Refusal::TooLong)
     }
 }
 
 // The record of the keys that were typed for the syllable `target`, which stand in `out`: no keys where there is no alignment.
-pub fn from_conversion_alignment(keys: &[u8], target: &[u8], out: &mut [u8]) -> Recorded
+pub fn from_conversion_alignment(
+    keys: &[u8],
+    target: &[u8],
+    out: &mut [u8],
+) -> Result<Record, Refusal>
     ensures { record_reply result out.new ≡ align_call unicode16 keys.now target.now out.old }
 {
     if 256 < keys.len() {
-        Recorded::Refused(Refusal::TooLong)
+        Err(Refusal::TooLong)
     } else if unicode::is_ascii(keys) {
         align(keys, target, out)
     } else {
-        Recorded::Refused(Refusal::OutsideTable)
+        Err(Refusal::OutsideTable)
     }
 }

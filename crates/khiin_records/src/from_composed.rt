@@ -12,16 +12,15 @@ ghost use Rattle.ji.specs.Lomaji.Keys.{respell};
 ghost use Rattle.khiin_records.specs.Syllable.{raw, default, below_rules, sign_rules, tone_digit, khin_key, candidate, candidates_of, placed_record, candidate_in, candidate_call, record_reply};
 ghost use Rattle.khiin_records.specs.RawBytes.{takes_below, first_of, second_of, nasal, below, body_of, count_of, vowel_at, byte_before, Walking};
 
-use crate::{Record, Recorded};
+use crate::Record;
 use ji::lomaji::dot::holds_dot;
 use ji::lomaji::khin::Khin;
-use ji::lomaji::strip::Strip;
 use ji::lomaji::{khin, strip};
-use ji::reply::{Refusal, TextAnswer};
+use ji::reply::Refusal;
 use ji::text::replace_pair;
 use ji::tone::Tone;
-use ji::unicode::{ByteLen, Decoded};
-use ji::{reply, tone, unicode};
+use ji::unicode::ByteLen;
+use ji::{reply, unicode};
 
 // Whether `s` holds the code point `x`.
 pub(crate) fn contains(s: &[u16], x: u16) -> bool
@@ -79,8 +78,8 @@ fn put_digit(tone: Tone, out: &mut [u16], at: usize) -> usize
     requires { at + length (tone_digit tone) ≤ length out.old }
     ensures { (result ≡ at + length (tone_digit tone)) × (out.new ≡ paste out.old at (tone_digit tone) (length (tone_digit tone))) }
 {
-    if tone::is_tone(tone) {
-        out[at] = 48 + tone::number(tone) as u16;
+    if tone.is_tone() {
+        out[at] = 48 + tone.number() as u16;
         return at + 1;
     }
     at
@@ -116,10 +115,10 @@ fn write_raw(s: &mut [u16], vowel: u16, tone: Tone, khin: Khin, letters: &mut [u
 fn key_count(tone: Tone, khin: Khin) -> usize
     ensures { result ≡ length (tone_digit tone ++ khin_key khin) }
 {
-    if tone::is_tone(tone) {
-        return 1 + khin::number(khin) as usize;
+    if tone.is_tone() {
+        return 1 + khin.number() as usize;
     }
-    khin::number(khin) as usize
+    khin.number() as usize
 }
 
 // Writes that candidate, one of `count`, to `out`. `s` and `letters` are used up.
@@ -131,25 +130,21 @@ fn place_candidate(
     khin: Khin,
     count: u64,
     out: &mut [u8],
-) -> Recorded
+) -> Result<Record, Refusal>
     requires { (vowel < 0x80) × (2 * length s.old + 2 ≤ length letters.old) }
     ensures { record_reply result out.new ≡ placed_record count (candidate tone khin s.old (vowel ∷ [])) out.old }
 {
     let n = write_raw(s, vowel, tone, khin, letters);
     let keys = key_count(tone, khin);
-    match reply::place(&letters[0..n], out) {
-        TextAnswer::Refused(why) => Recorded::Refused(why),
-        TextAnswer::Done(len) => {
-            let size = len.0;
-            Recorded::Done(Record {
-                len: ByteLen(size),
-                count: count,
-                body: ByteLen(size - keys),
-                tone: tone,
-                khin: khin,
-            })
-        }
-    }
+    let len = reply::place(&letters[0..n], out)?;
+    let size = len.0;
+    Ok(Record {
+        len: ByteLen(size),
+        count: count,
+        body: ByteLen(size - keys),
+        tone: tone,
+        khin: khin,
+    })
 }
 
 // Writes the candidate at the position: the one with u, or, where U+0358 occurs, the second one with o.
@@ -160,7 +155,7 @@ fn choose(
     khin: Khin,
     position: u64,
     out: &mut [u8],
-) -> Recorded
+) -> Result<Record, Refusal>
     requires { 2 * length s.old + 2 ≤ length letters.old }
     ensures { record_reply result out.new ≡ candidate_in (candidates_of tone khin s.old) position out.old }
 {
@@ -171,12 +166,12 @@ fn choose(
         if position == 1 {
             return place_candidate(s, letters, 0x6F, tone, khin, 2, out);
         }
-        return Recorded::Refused(Refusal::Position);
+        return Err(Refusal::Position);
     }
     if position == 0 {
         return place_candidate(s, letters, 0x75, tone, khin, 1, out);
     }
-    Recorded::Refused(Refusal::Position)
+    Err(Refusal::Position)
 }
 
 // The plain way, for any buffer: the candidate at the position of a stripped text, by its code points.
@@ -187,24 +182,25 @@ fn candidate_of(
     letters: &mut [u16],
     position: u64,
     out: &mut [u8],
-) -> Recorded
+) -> Result<Record, Refusal>
     requires { (length stripped.now ≤ length points.old) × (2 * length points.old + 2 ≤ length letters.old) }
     ensures { (u : List ℕ) → members unicode16 u ≡ true → stripped.now ≡ encode u
         → record_reply result out.new ≡ candidate_in (candidates_of tone (khin_in u) (without_khin u)) position out.old }
 {
     let khin = khin::khin_of(stripped);
     let rest = khin::strip_khin(stripped);
-    match unicode::code_points(rest, points) {
-        Decoded::Refused(why) => Recorded::Refused(why),
-        Decoded::Points(len) => {
-            let n = len.0;
-            choose(&mut points[0..n], letters, tone, khin, position, out)
-        }
-    }
+    let len = unicode::code_points(rest, points)?;
+    let n = len.0;
+    choose(&mut points[0..n], letters, tone, khin, position, out)
 }
 
 // The same with buffers for any text. They stand here and not in the callers, so that the quick way does not make room for them.
-fn candidate_points(stripped: &[u8], tone: Tone, position: u64, out: &mut [u8]) -> Recorded
+fn candidate_points(
+    stripped: &[u8],
+    tone: Tone,
+    position: u64,
+    out: &mut [u8],
+) -> Result<Record, Refusal>
     requires { length stripped.now ≤ 640 }
     ensures { (u : List ℕ) → members unicode16 u ≡ true → stripped.now ≡ encode u
         → record_reply result out.new ≡ candidate_in (candidates_of tone (khin_in u) (without_khin u)) position out.old }
@@ -215,11 +211,11 @@ fn candidate_points(stripped: &[u8], tone: Tone, position: u64, out: &mut [u8]) 
 }
 
 // The one candidate of the empty text: the default.
-fn default_at(position: u64, out: &mut [u8]) -> Recorded
+fn default_at(position: u64, out: &mut [u8]) -> Result<Record, Refusal>
     ensures { record_reply result out.new ≡ candidate_in (default ∷ []) position out.old }
 {
     if position == 0 {
-        return Recorded::Done(Record {
+        return Ok(Record {
             len: ByteLen(0),
             count: 1,
             body: ByteLen(0),
@@ -227,7 +223,7 @@ fn default_at(position: u64, out: &mut [u8]) -> Recorded
             khin: Khin::No,
         });
     }
-    Recorded::Refused(Refusal::Position)
+    Err(Refusal::Position)
 }
 
 // The quick way, for a buffer with room to spare: one walk from the bytes of the stripped text to the bytes of the raw input.
@@ -380,7 +376,7 @@ pub(crate) fn put_keys(tone: Tone, khin: Khin, out: &mut [u8], at: usize) -> usi
     requires { (is_tone tone ≡ true) × (at + 2 ≤ length out.old) }
     ensures { (result ≡ at + length (tone_digit tone ++ khin_key khin)) × (out.new ≡ paste out.old at (tone_digit tone ++ khin_key khin) (length (tone_digit tone ++ khin_key khin))) }
 {
-    out[at] = 48 + tone::number(tone) as u8;
+    out[at] = 48 + tone.number() as u8;
     match khin {
         Khin::No => at + 1,
         Khin::Yes => {
@@ -407,20 +403,26 @@ fn vowel_at(s: &[u8], position: u64) -> u8
 
 // The candidate at the position of a stripped text behind khin, from its bytes. One `if` with both answers: two returns would send the record
 // through memory.
-fn write_candidate(s: &[u8], tone: Tone, khin: Khin, position: u64, out: &mut [u8]) -> Recorded
+fn write_candidate(
+    s: &[u8],
+    tone: Tone,
+    khin: Khin,
+    position: u64,
+    out: &mut [u8],
+) -> Result<Record, Refusal>
     requires { (is_tone tone ≡ true) × (length s.now + 2 ≤ length out.old) }
     ensures { (u : List ℕ) → s.now ≡ encode u
         → record_reply result out.new ≡ candidate_in (candidates_of tone khin u) position out.old }
 {
     let vowel = vowel_at(s, position);
     if vowel == 0 {
-        Recorded::Refused(Refusal::Position)
+        Err(Refusal::Position)
     } else {
         let spelled = spell(s, vowel, out);
         let body = spelled.len;
         let count = spelled.count as u64;
         let len = put_keys(tone, khin, out, body);
-        Recorded::Done(Record {
+        Ok(Record {
             len: ByteLen(len),
             count: count,
             body: ByteLen(body),
@@ -431,7 +433,12 @@ fn write_candidate(s: &[u8], tone: Tone, khin: Khin, position: u64, out: &mut [u
 }
 
 // The candidate at the position of a stripped text, from its bytes.
-fn candidate_bytes(stripped: &[u8], tone: Tone, position: u64, out: &mut [u8]) -> Recorded
+fn candidate_bytes(
+    stripped: &[u8],
+    tone: Tone,
+    position: u64,
+    out: &mut [u8],
+) -> Result<Record, Refusal>
     requires { (is_tone tone ≡ true) × (length stripped.now + 2 ≤ length out.old) }
     ensures { (u : List ℕ) → stripped.now ≡ encode u
         → record_reply result out.new ≡ candidate_in (candidates_of tone (khin_in u) (without_khin u)) position out.old }
@@ -442,23 +449,24 @@ fn candidate_bytes(stripped: &[u8], tone: Tone, position: u64, out: &mut [u8]) -
 }
 
 // The candidate at the position of a text that is not empty. That there is room is known before the text is stripped.
-fn quick_in(text: &[u8], stripped: &mut [u8], position: u64, out: &mut [u8]) -> Recorded
+fn quick_in(
+    text: &[u8],
+    stripped: &mut [u8],
+    position: u64,
+    out: &mut [u8],
+) -> Result<Record, Refusal>
     requires { (0 < length text.now) × (5 * length text.now ≤ 2 * length stripped.old) × (3 * length text.now < length out.old) }
     ensures { record_reply result out.new ≡ candidate_call unicode16 text.now position out.old }
 {
-    match strip::strip_tone_diacritic(text, stripped) {
-        Strip::Refused(why) => Recorded::Refused(why),
-        Strip::Done(result) => {
-            let len = result.len;
-            let n = len.0;
-            let tone = result.tone;
-            candidate_bytes(&stripped[0..n], tone, position, out)
-        }
-    }
+    let result = strip::strip_tone_diacritic(text, stripped)?;
+    let len = result.len;
+    let n = len.0;
+    let tone = result.tone;
+    candidate_bytes(&stripped[0..n], tone, position, out)
 }
 
 // A text of at most 16 bytes.
-fn candidate_quick(text: &[u8], position: u64, out: &mut [u8]) -> Recorded
+fn candidate_quick(text: &[u8], position: u64, out: &mut [u8]) -> Result<Record, Refusal>
     requires { (0 < length text.now) × (length text.now ≤ 16) × (3 * length text.now < length out.old) }
     ensures { record_reply result out.new ≡ candidate_call unicode16 text.now position out.old }
 {
@@ -467,7 +475,12 @@ fn candidate_quick(text: &[u8], position: u64, out: &mut [u8]) -> Recorded
 }
 
 // The candidate at the position of a stripped text: by the quick way where its raw input has room in any case, else by the plain one.
-fn candidate_stripped(stripped: &[u8], tone: Tone, position: u64, out: &mut [u8]) -> Recorded
+fn candidate_stripped(
+    stripped: &[u8],
+    tone: Tone,
+    position: u64,
+    out: &mut [u8],
+) -> Result<Record, Refusal>
     requires { (is_tone tone ≡ true) × (length stripped.now ≤ 640) }
     ensures { (u : List ℕ) → members unicode16 u ≡ true → stripped.now ≡ encode u
         → record_reply result out.new ≡ candidate_in (candidates_of tone (khin_in u) (without_khin u)) position out.old }
@@ -479,23 +492,24 @@ fn candidate_stripped(stripped: &[u8], tone: Tone, position: u64, out: &mut [u8]
 }
 
 // The candidate at the position of a text that is not empty.
-fn candidate_in(text: &[u8], stripped: &mut [u8], position: u64, out: &mut [u8]) -> Recorded
+fn candidate_in(
+    text: &[u8],
+    stripped: &mut [u8],
+    position: u64,
+    out: &mut [u8],
+) -> Result<Record, Refusal>
     requires { (0 < length text.now) × (5 * length text.now ≤ 2 * length stripped.old) × (length stripped.old ≤ 640) }
     ensures { record_reply result out.new ≡ candidate_call unicode16 text.now position out.old }
 {
-    match strip::strip_tone_diacritic(text, stripped) {
-        Strip::Refused(why) => Recorded::Refused(why),
-        Strip::Done(result) => {
-            let len = result.len;
-            let n = len.0;
-            let tone = result.tone;
-            candidate_stripped(&stripped[0..n], tone, position, out)
-        }
-    }
+    let result = strip::strip_tone_diacritic(text, stripped)?;
+    let len = result.len;
+    let n = len.0;
+    let tone = result.tone;
+    candidate_stripped(&stripped[0..n], tone, position, out)
 }
 
 // A text of at most 16 bytes: clearing a small buffer is quicker.
-fn candidate_short(text: &[u8], position: u64, out: &mut [u8]) -> Recorded
+fn candidate_short(text: &[u8], position: u64, out: &mut [u8]) -> Result<Record, Refusal>
     requires { (0 < length text.now) × (length text.now ≤ 16) }
     ensures { record_reply result out.new ≡ candidate_call unicode16 text.now position out.old }
 {
@@ -504,7 +518,7 @@ fn candidate_short(text: &[u8], position: u64, out: &mut [u8]) -> Recorded
 }
 
 // A text of at most 256 bytes.
-fn candidate_long(text: &[u8], position: u64, out: &mut [u8]) -> Recorded
+fn candidate_long(text: &[u8], position: u64, out: &mut [u8]) -> Result<Record, Refusal>
     requires { (0 < length text.now) × (length text.now ≤ 256) }
     ensures { record_reply result out.new ≡ candidate_call unicode16 text.now position out.old }
 {
@@ -513,7 +527,7 @@ fn candidate_long(text: &[u8], position: u64, out: &mut [u8]) -> Recorded
 }
 
 // Any text, in a buffer of the size that it needs.
-fn candidate_any(text: &[u8], position: u64, out: &mut [u8]) -> Recorded
+fn candidate_any(text: &[u8], position: u64, out: &mut [u8]) -> Result<Record, Refusal>
     ensures { record_reply result out.new ≡ candidate_call unicode16 text.now position out.old }
 {
     if text.len() == 0 {
@@ -525,16 +539,16 @@ fn candidate_any(text: &[u8], position: u64, out: &mut [u8]) -> Recorded
     if text.len() <= 256 {
         return candidate_long(text, position, out);
     }
-    Recorded::Refused(Refusal::TooLong)
+    Err(Refusal::TooLong)
 }
 
 // An answer of a slower way, taken apart and made again, so that the quickest way's answer need not go through memory to meet it.
-pub(crate) fn again(answer: Recorded) -> Recorded
+pub(crate) fn again(answer: Result<Record, Refusal>) -> Result<Record, Refusal>
     ensures { result ≡ answer }
 {
     match answer {
-        Recorded::Refused(why) => Recorded::Refused(why),
-        Recorded::Done(result) => Recorded::Done(result),
+        Err(why) => Err(why),
+        Ok(result) => Ok(result),
     }
 }
 
@@ -552,7 +566,7 @@ fn is_quick(len: usize, room: usize) -> bool
 }
 
 // The candidate at the position, whose raw input stands in `out`, and how many there are.
-pub fn from_composed(text: &[u8], position: u64, out: &mut [u8]) -> Recorded
+pub fn from_composed(text: &[u8], position: u64, out: &mut [u8]) -> Result<Record, Refusal>
     ensures { record_reply result out.new ≡ candidate_call unicode16 text.now position out.old }
 {
     if is_quick(text.len(), out.len()) {

@@ -4,12 +4,12 @@ ghost use Rattle.ji.specs.Text.{all_ascii, last};
 ghost use Rattle.khiin_records.specs.Syllable.{key_tone, from_raw, placed_record, from_raw_call, record_reply};
 ghost use Rattle.khiin_records.specs.Records.{RecordOf};
 
-use crate::{Record, Recorded};
+use crate::Record;
 use ji::lomaji::khin::Khin;
-use ji::reply::{Refusal, TextAnswer};
+use ji::reply::Refusal;
 use ji::tone::Tone;
 use ji::unicode::ByteLen;
-use ji::{reply, tone, unicode};
+use ji::{reply, unicode};
 
 // The tone that a key is, None of any key but 1 to 9.
 fn key_tone(key: u8) -> Tone
@@ -46,7 +46,7 @@ fn record_of(s: &[u8]) -> Record
 {
     let n = s.len();
     let tone = key_tone(last_key(s));
-    if tone::is_tone(tone) {
+    if tone.is_tone() {
         return Record {
             len: ByteLen(n),
             count: 0,
@@ -65,25 +65,25 @@ fn record_of(s: &[u8]) -> Record
 }
 
 // The record of keys that are ASCII, which are its raw input, in `out`.
-pub(crate) fn place_keys(keys: &[u8], out: &mut [u8]) -> Recorded
+pub(crate) fn place_keys(keys: &[u8], out: &mut [u8]) -> Result<Record, Refusal>
     ensures { all_ascii keys.now ≡ true → record_reply result out.new ≡ placed_record 0 (from_raw keys.now) out.old }
 {
     match reply::place_bytes(keys, out) {
-        TextAnswer::Refused(why) => Recorded::Refused(why),
-        TextAnswer::Done(_) => Recorded::Done(record_of(keys)),
+        Err(why) => Err(why),
+        Ok(_) => Ok(record_of(keys)),
     }
 }
 
 // The record of `keys`.
-pub fn from_raw(keys: &[u8], out: &mut [u8]) -> Recorded
+pub fn from_raw(keys: &[u8], out: &mut [u8]) -> Result<Record, Refusal>
     ensures { record_reply result out.new ≡ from_raw_call keys.now out.old }
 {
     if 256 < keys.len() {
-        return Recorded::Refused(Refusal::TooLong);
+        return Err(Refusal::TooLong);
     }
     if unicode::is_ascii(keys) {
         place_keys(keys, out)
     } else {
-        Recorded::Refused(Refusal::OutsideTable)
+        Err(Refusal::OutsideTable)
     }
 }

@@ -15,11 +15,8 @@ ghost use Rattle.robinflint.specs.Arguments.{compose_numbered, telex_numbered, k
 ghost use Rattle.robinflint.specs.Reply.{reply_of};
 
 use crate::reply::{Reply, found, refuse};
-use ji::lomaji::strip::Strip;
-use ji::lomaji::tone_letter::ToneLetter;
 use ji::lomaji::{strip, tone_letter};
 use ji::reply::Refusal;
-use ji::tone;
 use khiin::converter;
 use khiin::syllable::compose;
 use khiin_entries::key_sequence;
@@ -31,8 +28,8 @@ pub fn rf_strip(text: &[u8], out: &mut [u8]) -> Reply
     ensures { reply_of result out.new ≡ strip_call unicode16 text.now out.old }
 {
     match strip::strip_tone_diacritic(text, out) {
-        Strip::Refused(why) => refuse(why),
-        Strip::Done(result) => {
+        Err(why) => refuse(why),
+        Ok(result) => {
             let len = result.len;
             let tone = result.tone;
             Reply {
@@ -40,7 +37,7 @@ pub fn rf_strip(text: &[u8], out: &mut [u8]) -> Reply
                 length: len.0 as u64,
                 count: 0,
                 body: 0,
-                tone: tone::number(tone) as u64,
+                tone: tone.number() as u64,
                 khin: 0,
                 position: 0,
             }
@@ -54,9 +51,9 @@ pub fn rf_tone_letter(text: &[u8]) -> Reply
     ensures { reply_of result [] ≡ tone_letter_call unicode16 text.now }
 {
     match tone_letter::tone_letter(text) {
-        ToneLetter::Refused(why) => refuse(why),
-        ToneLetter::Nothing => found(0, 0),
-        ToneLetter::At(position) => found(1, position.0 as u64),
+        Err(why) => refuse(why),
+        Ok(None) => found(0, 0),
+        Ok(Some(position)) => found(1, position.0 as u64),
     }
 }
 

@@ -5,11 +5,10 @@ ghost use Rattle.khiin_entries.specs.KeySequence.{keying_reply};
 ghost use Rattle.khiin_records.specs.Syllable.{record_reply};
 ghost use Rattle.robinflint.specs.Reply.{reply_of};
 
-use ji::lomaji::khin;
-use ji::reply::{Refusal, TextAnswer};
-use ji::{reply, tone};
-use khiin_entries::key_sequence::Keying;
-use khiin_records::Recorded;
+use ji::reply::Refusal;
+use ji::unicode::ByteLen;
+use khiin_entries::key_sequence::KeyingResult;
+use khiin_records::Record;
 
 // 0 or the refusal's number, and the numbers that a call gives, each 0 where it gives none.
 #[repr(C)]
@@ -30,7 +29,7 @@ pub fn refuse(why: Refusal) -> Reply
     ensures { (buffer : List ℕ) → reply_of result buffer ≡ refused why buffer }
 {
     Reply {
-        code: reply::number(why),
+        code: why.number(),
         length: 0,
         count: 0,
         body: 0,
@@ -58,12 +57,12 @@ pub fn found(length: u64, position: u64) -> Reply
 
 // A text in the lent buffer.
 #[inline(always)]
-pub fn text(answer: TextAnswer) -> Reply
+pub fn text(answer: Result<ByteLen, Refusal>) -> Reply
     ensures { (buffer : List ℕ) → reply_of result buffer ≡ text_reply answer buffer }
 {
     match answer {
-        TextAnswer::Refused(why) => refuse(why),
-        TextAnswer::Done(len) => Reply {
+        Err(why) => refuse(why),
+        Ok(len) => Reply {
             code: 0,
             length: len.0 as u64,
             count: 0,
@@ -77,12 +76,12 @@ pub fn text(answer: TextAnswer) -> Reply
 
 // A syllable record, with its raw input in the lent buffer.
 #[inline(always)]
-pub fn syllable(answer: Recorded) -> Reply
+pub fn syllable(answer: Result<Record, Refusal>) -> Reply
     ensures { (buffer : List ℕ) → reply_of result buffer ≡ record_reply answer buffer }
 {
     match answer {
-        Recorded::Refused(why) => refuse(why),
-        Recorded::Done(result) => {
+        Err(refusal) => refuse(refusal),
+        Ok(result) => {
             let len = result.len;
             let body = result.body;
             let tone = result.tone;
@@ -92,8 +91,8 @@ pub fn syllable(answer: Recorded) -> Reply
                 length: len.0 as u64,
                 count: result.count,
                 body: body.0 as u64,
-                tone: tone::number(tone) as u64,
-                khin: khin::number(khin),
+                tone: tone.number() as u64,
+                khin: khin.number(),
                 position: 0,
             }
         }
@@ -102,12 +101,12 @@ pub fn syllable(answer: Recorded) -> Reply
 
 // A keying in the lent buffer, and how many its list has.
 #[inline(always)]
-pub fn keying(answer: Keying) -> Reply
+pub fn keying(answer: Result<KeyingResult, Refusal>) -> Reply
     ensures { (buffer : List ℕ) → reply_of result buffer ≡ keying_reply answer buffer }
 {
     match answer {
-        Keying::Refused(why) => refuse(why),
-        Keying::Done(keying) => {
+        Err(why) => refuse(why),
+        Ok(keying) => {
             let len = keying.len;
             Reply {
                 code: 0,

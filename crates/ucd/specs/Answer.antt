@@ -5,8 +5,7 @@ use Rattle.ucd.specs.Table.{decomposition, pick_text, pick_mapping, pick_point, 
 use Rattle.ucd.specs.Unicode16.{unicode16}
 use Rattle.ucd.specs.declared.Mapping.{Mapping}
 use Rattle.ucd.specs.declared.Mapping.TheVariants.{Itself, One, Two}
-use Rattle.ucd.specs.declared.Made.{Made}
-use Rattle.ucd.specs.declared.Made.TheVariants.{Point, Nothing}
+use Rattle.std.specs.Prelude.{Some, Option as Found, None}
 
 -- the decomposition of c that a mapping says
 abbrev pub text_of : ℕ → Mapping → List ℕ
@@ -21,9 +20,9 @@ said (One a) = some (a ∷ [])
 said (Two a b) = some (a ∷ b ∷ [])
 
 -- the composite, if there is one
-abbrev pub point_of : Made → Option ℕ
-point_of (Point p) = some p
-point_of Nothing = none
+abbrev pub point_of : Found ℕ → Option ℕ
+point_of (Some p) = some p
+point_of None = none
 
 -- the decomposition of c that a number of the rows stands for: 0 for none, else its first code point times 65536, plus the second, if there is one
 abbrev pub unpacked : ℕ → ℕ → List ℕ

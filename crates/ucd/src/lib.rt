@@ -80,34 +80,27 @@ pub fn combining_class(c: u16) -> u8
     table::class_number(c)
 }
 
-// What two code points compose to.
-#[derive(Clone, Copy)]
-pub enum Made {
-    Point(u16),
-    Nothing,
-}
-
 // The composite of a and b: the candidate for them, if its decomposition is a, b.
-pub fn composite(a: u16, b: u16) -> Made
+pub fn composite(a: u16, b: u16) -> Option<u16>
     ensures { point_of result ≡ composite unicode16 a b }
 {
     if b < 0x0300 {
-        return Made::Nothing;
+        return None;
     }
     if 0x0338 < b {
-        return Made::Nothing;
+        return None;
     }
     let p = table::candidate(a, b);
     match decomposition(p) {
-        Mapping::Itself => Made::Nothing,
-        Mapping::One(_) => Made::Nothing,
+        Mapping::Itself => None,
+        Mapping::One(_) => None,
         Mapping::Two(first, second) => {
             if first == a {
                 if second == b {
-                    return Made::Point(p);
+                    return Some(p);
                 }
             }
-            Made::Nothing
+            None
         }
     }
 }

@@ -13,7 +13,6 @@ ghost use Rattle.workbench.specs.Keys.{form_of, keys_call};
 ghost use Rattle.workbench.specs.Listing.{listing_call};
 
 use ji::lomaji::keys::Form;
-use ji::lomaji::tone_letter::HasToneLetter;
 use ji::lomaji::{keys, khin, tone_letter};
 use ji::reply::Refusal;
 use ji::{nfc, nfd};
@@ -47,7 +46,7 @@ pub fn wb_strip_khin(text: &[u8]) -> Reply
         count: 0,
         body: 0,
         tone: 0,
-        khin: khin::number(khin::khin_of(text)),
+        khin: khin::khin_of(text).number(),
         position: (text.len() - rest.len()) as u64,
     }
 }
@@ -57,9 +56,9 @@ pub fn wb_has_tone_letter(text: &[u8]) -> Reply
     ensures { reply_of result [] ≡ has_tone_letter_call unicode16 text.now }
 {
     match tone_letter::has_tone_letter(text) {
-        HasToneLetter::Refused(why) => reply::refuse(why),
-        HasToneLetter::Yes => reply::found(1, 0),
-        HasToneLetter::No => reply::found(0, 0),
+        Err(why) => reply::refuse(why),
+        Ok(true) => reply::found(1, 0),
+        Ok(false) => reply::found(0, 0),
     }
 }
 

@@ -18,13 +18,13 @@ use Rattle.ji.specs.Unicode.{members, accepted_from, accepted, spread}
 use Rattle.ji.specs.Reply.{good, bad, pick_checked, check_points}
 use Rattle.ji.specs.Reading.{fault_in, Reading}
 use Rattle.ji.specs.declared.reply.Refusal.TheVariants.{IllFormed, OutsideTable}
-use Rattle.ji.specs.declared.unicode.Decoded.TheVariants.{Points, Refused}
 use Rattle.ji.proofs.Bools.{false_true}
 use Rattle.ji.proofs.Writing.{written_none, written_run}
 use Rattle.ji.proofs.utf8.Encoding.{bytes_one, bytes_two, bytes_three, bytes_four}
 use Rattle.ji.proofs.utf8.Decoding.{width_length, decode_at_ill, decode_at, decode_end}
 use Rattle.ji.proofs.utf8.RoundTrip.{bytes_back}
 use Rattle.ji.proofs.unicode.Laws.{spread_nil, spread_append, spread_length, spread_low, members_append, members_not, members_one, accepted_ill, accepted_outside, accepted_at}
+use Rattle.std.specs.Prelude.{Ok, Err}
 
 -- ── room: a text of n bytes spreads to at most three code points for two bytes
 bytes_many : (c : ℕ) → 0x7F < c → 2 ≤ length (bytes_of c)
@@ -189,22 +189,22 @@ module _ (t : Table) (d : Bool) (s before : List ℕ) where
     left : accepted t (drop i s) ≡ [] → Written before after (length (spread t d (accepted t s))) (spread t d (accepted t s))
     left e = rw (taken_all t s r.taken i r.text e, r.written.size) r.written
 
-    pub read_end : length s ≤ i → Reading t d s before after (Points (record { 0 = n }))
+    pub read_end : length s ≤ i → Reading t d s before after (Ok (record { 0 = n }))
     read_end h = (r.taken, taken_end t s r.taken i r.text h, r.written)
 
     module _ (h : i < length s) where
-      pub read_ill : width_at (drop i s) ≡ 0 → Reading t d s before after (Refused IllFormed)
+      pub read_ill : width_at (drop i s) ≡ 0 → Reading t d s before after (Err IllFormed)
       read_ill e = (taken_ill t s r.taken i r.text h e, left (accepted_ill t s i h e))
 
       module _ (k : 0 < width_at (drop i s)) where
         module _ (m : member t (point_at (drop i s)) ≡ false) where
-          pub read_outside : is_decoded (decode (drop i s)) ≡ true → Reading t d s before after (Refused OutsideTable)
+          pub read_outside : is_decoded (decode (drop i s)) ≡ true → Reading t d s before after (Err OutsideTable)
           read_outside f = (taken_outside t s r.taken i r.text h k m f, left (accepted_outside t s i h k m))
 
-          pub read_outside_ill : is_decoded (decode (drop i s)) ≡ false → Reading t d s before after (Refused IllFormed)
+          pub read_outside_ill : is_decoded (decode (drop i s)) ≡ false → Reading t d s before after (Err IllFormed)
           read_outside_ill f = (taken_outside_ill t s r.taken i r.text h k m f, left (accepted_outside t s i h k m))
 
-          pub read_fault : Reading t d s before after (Refused (fault_in (decode (drop i s))))
+          pub read_fault : Reading t d s before after (Err (fault_in (decode (drop i s))))
           read_fault = (taken_fault t s r.taken i r.text h k m, left (accepted_outside t s i h k m))
 
         -- a code point of the table is taken

@@ -8,8 +8,7 @@ use Rattle.ji.specs.declared.lomaji.keys.Form.{Form}
 use Rattle.ji.specs.declared.lomaji.keys.Form.TheVariants.{Plain, Oo}
 use Rattle.ji.specs.declared.lomaji.keys.Kind.{Kind}
 use Rattle.ji.specs.declared.lomaji.keys.Kind.TheVariants.{Detoned, Numeric, Telex}
-use Rattle.ji.specs.declared.lomaji.keys.ToneKey.{ToneKey}
-use Rattle.ji.specs.declared.lomaji.keys.ToneKey.TheVariants.{Nothing, Key}
+use Rattle.std.specs.Prelude.{Some, Option, None}
 
 -- "o+0358→ou, O+0358→Ou, 207F→nn, 1D3A→NN, o+0324→eo, u+0324→eu"
 abbrev pub plain_rules : List (List ℕ × List ℕ)
@@ -57,6 +56,6 @@ unfoldable pub keys : Table → Form → Kind → List ℕ → List ℕ
 keys t form kind s = keyed (rules_of form) (tone_keys kind) (strip t s)
 
 -- the key of a tone as the code has it
-abbrev pub key_text : ToneKey → List ℕ
-key_text Nothing = []
-key_text (Key k) = k ∷ []
+abbrev pub key_text : Option ℕ → List ℕ
+key_text None = []
+key_text (Some k) = k ∷ []

@@ -9,8 +9,9 @@ use Rattle.ji.specs.Reply.{good, check_points}
 use Rattle.ji.specs.Lomaji.Strip.{mark_tone, is_tone_mark, without_marks, dropped_marks, last_tone}
 use Rattle.ji.specs.declared.tone.Tone.TheVariants.{None}
 use Rattle.ji.specs.declared.lomaji.quick.Progress.{Progress}
-use Rattle.ji.specs.declared.lomaji.quick.Outcome.{Outcome}
-use Rattle.ji.specs.declared.lomaji.quick.Outcome.TheVariants.{Whole, GivenUp}
+use Rattle.std.specs.Prelude.{Option, Some}
+use Rattle.ji.specs.declared.tone.Tone.{Tone}
+use Rattle.ji.specs.declared.unicode.ByteLen.{ByteLen}
 
 -- x holds the two code points that c, of the table, decomposes to, an ASCII character and a tone mark, or is 0
 abbrev pub IsLetter : ℕ → ℕ → Type 0
@@ -30,8 +31,8 @@ abbrev pub Further : Progress → Progress → List ℕ → List ℕ → List �
 Further p q entry exit u = (before s : List ℕ) → Stripping before entry p s → Stripping before exit q (s ++ u)
 
 -- the text is good, and the buffer holds the bytes of its NFD without the marks
-abbrev pub Walked : List ℕ → List ℕ → List ℕ → Outcome → Type 0
-Walked text before after (Whole n tone) =
-    (u : List ℕ) × (check_points unicode16 (decode text) ≡ good u) × Written before after n.0 (encode (without_marks (nfd unicode16 u)))
-    × (tone ≡ last_tone None (dropped_marks (nfd unicode16 u)))
-Walked text before after GivenUp = Unit {0}
+abbrev pub Walked : List ℕ → List ℕ → List ℕ → Option (ByteLen × Tone) → Type 0
+Walked text before after (Some walk) =
+    (u : List ℕ) × (check_points unicode16 (decode text) ≡ good u) × Written before after walk.0.0 (encode (without_marks (nfd unicode16 u)))
+    × (walk.1 ≡ last_tone None (dropped_marks (nfd unicode16 u)))
+Walked text before after _ = Unit {0}

@@ -6,10 +6,11 @@ use Rattle.ji.specs.Utf8.{encode, bytes}
 use Rattle.ji.specs.Nfd.{nfd}
 use Rattle.ji.specs.Tone.{pick_tone, is_tone, tone_number}
 use Rattle.ji.specs.Reply.{Reply, refused, placed, Checked, good, bad, check_text}
-use Rattle.ji.specs.declared.lomaji.strip.Strip.{Strip}
-use Rattle.ji.specs.declared.lomaji.strip.Strip.TheVariants.{Done, Refused}
 use Rattle.ji.specs.declared.tone.Tone.{Tone}
 use Rattle.ji.specs.declared.tone.Tone.TheVariants.{None, T1, T2, T3, T4, T5, T6, T7, T8, T9}
+use Rattle.std.specs.Prelude.{Result, Ok, Err}
+use Rattle.ji.specs.declared.reply.Refusal.{Refusal}
+use Rattle.ji.specs.declared.lomaji.strip.StripResult.{StripResult}
 
 -- "drop the marks 0301 (T2), 0300 (T3), 0302 (T5), 0303 (T6), 0304 (T7), 030D (T8), 0306 (T9)"
 abbrev pub tone_marks : List (ℕ × Tone)
@@ -91,7 +92,7 @@ unfoldable pub strip_call : Table → List ℕ → List ℕ → Reply
 strip_call t text buffer = strip_of t (check_text t text) buffer
 
 -- the code's answer, and what it leaves in the buffer, as a reply
-abbrev pub strip_reply : Strip → List ℕ → Reply
-strip_reply (Done r) buffer =
+abbrev pub strip_reply : Result StripResult Refusal → List ℕ → Reply
+strip_reply (Ok r) buffer =
     record { code = 0; length = r.len.0; count = 0; body = 0; tone = tone_number r.tone; khin = 0; position = 0; buffer = buffer }
-strip_reply (Refused why) buffer = refused why buffer
+strip_reply (Err why) buffer = refused why buffer

@@ -7,11 +7,10 @@ use Rattle.ji.specs.Text.{points, lower}
 use Rattle.ji.specs.Nfd.{nfd}
 use Rattle.ji.specs.Unicode.{to_byte_len}
 use Rattle.ji.specs.Reply.{Reply, refused, found, Checked, good, bad, check_text}
-use Rattle.ji.specs.declared.lomaji.tone_letter.ToneLetter.{ToneLetter}
-use Rattle.ji.specs.declared.lomaji.tone_letter.HasToneLetter.{HasToneLetter}
-use Rattle.ji.specs.declared.lomaji.tone_letter.BytePlace.{BytePlace}
-use Rattle.ji.specs.declared.lomaji.tone_letter.Place.{Place}
-use Rattle.ji.specs.declared.lomaji.tone_letter.Place.TheVariants.{At, Nowhere}
+use Rattle.std.specs.Prelude.{Some, Option as Found, None, Result, Ok, Err}
+use Rattle.ji.specs.declared.reply.Refusal.{Refusal}
+use Rattle.ji.specs.declared.unicode.ByteLen.{ByteLen}
+use Rattle.ji.specs.declared.unicode.CharLen.{CharLen}
 
 -- "The tone letter is found by patterns in this order": for each letter of a pattern those that it may be, and which of them it is
 abbrev pub patterns : List (List String × ℕ)
@@ -68,14 +67,14 @@ unfoldable pub has_tone_letter : Table → List ℕ → Bool
 has_tone_letter t s = is_some (tone_letter (nfd t s))
 
 -- a place as the code has it
-abbrev pub place_of : Place → Option ℕ
-place_of (At n) = some n.0
-place_of Nowhere = none
+abbrev pub place_of : Found CharLen → Option ℕ
+place_of (Some n) = some n.0
+place_of None = none
 
 -- the same, of a place in bytes
-abbrev pub byte_place_of : BytePlace → Option ℕ
-byte_place_of (BytePlace.At n) = some n.0
-byte_place_of BytePlace.Nowhere = none
+abbrev pub byte_place_of : Found ByteLen → Option ℕ
+byte_place_of (Some n) = some n.0
+byte_place_of None = none
 
 -- ── the calls
 -- "no tone letter" is a good answer "with length 0"; a tone letter has length 1 and its position, "counted in bytes"
@@ -90,10 +89,10 @@ tone_letter_of (bad why) = refused why []
 unfoldable pub tone_letter_call : Table → List ℕ → Reply
 tone_letter_call t text = tone_letter_of (check_text t text)
 
-abbrev pub tone_letter_reply : ToneLetter → Reply
-tone_letter_reply (ToneLetter.At n) = found 1 n.0
-tone_letter_reply ToneLetter.Nothing = found 0 0
-tone_letter_reply (ToneLetter.Refused why) = refused why []
+abbrev pub tone_letter_reply : Result (Found ByteLen) Refusal → Reply
+tone_letter_reply (Ok (Some n)) = found 1 n.0
+tone_letter_reply (Ok None) = found 0 0
+tone_letter_reply (Err why) = refused why []
 
 abbrev pub has_letter_reply : Bool → Reply
 has_letter_reply true = found 1 0
@@ -106,7 +105,7 @@ has_tone_letter_of t (bad why) = refused why []
 unfoldable pub has_tone_letter_call : Table → List ℕ → Reply
 has_tone_letter_call t text = has_tone_letter_of t (check_text t text)
 
-abbrev pub has_tone_letter_reply : HasToneLetter → Reply
-has_tone_letter_reply HasToneLetter.Yes = found 1 0
-has_tone_letter_reply HasToneLetter.No = found 0 0
-has_tone_letter_reply (HasToneLetter.Refused why) = refused why []
+abbrev pub has_tone_letter_reply : Result Bool Refusal → Reply
+has_tone_letter_reply (Ok true) = found 1 0
+has_tone_letter_reply (Ok false) = found 0 0
+has_tone_letter_reply (Err why) = refused why []

@@ -10,12 +10,11 @@ ghost use Rattle.ji.specs.Reply.{placed, text_call, text_reply};
 ghost use Rattle.ji.specs.Lomaji.Keys.{plain_rules, rules_of, respell, tone_keys, keys, key_text};
 
 use crate::lomaji::strip;
-use crate::lomaji::strip::Strip;
-use crate::reply::{Refusal, TextAnswer};
+use crate::reply::Refusal;
 use crate::text::{put, replace_pair};
 use crate::tone::Tone;
-use crate::unicode::Decoded;
-use crate::{reply, tone, unicode};
+use crate::unicode::ByteLen;
+use crate::{reply, unicode};
 
 // The two spellings of o with U+0358: ou, and oo.
 #[derive(Clone, Copy)]
@@ -29,13 +28,6 @@ pub enum Kind {
     Detoned,
     Numeric,
     Telex,
-}
-
-// The key that a tone adds.
-#[derive(Clone, Copy)]
-pub(crate) enum ToneKey {
-    Nothing,
-    Key(u8),
 }
 
 // The rules go in three parts, in their order. Letters by number: 4E N, 4F O, 65 e, 6E n, 6F o, 75 u.
@@ -100,32 +92,32 @@ pub(crate) fn respell(form: Form, s: &mut [u16], out: &mut [u16]) -> usize
 }
 
 // The key that an ASCII character is.
-fn key_of(ascii: u8) -> ToneKey
+fn key_of(ascii: u8) -> Option<u8>
     ensures { key_text result ≡ ascii ∷ [] }
 {
-    ToneKey::Key(ascii)
+    Some(ascii)
 }
 
 // The key by which keys of a kind write a tone.
-pub(crate) fn tone_key(kind: Kind, tone: Tone) -> ToneKey
+pub(crate) fn tone_key(kind: Kind, tone: Tone) -> Option<u8>
     ensures { key_text result ≡ take 1 (drop (tone_number tone) (tone_keys kind)) }
 {
-    let n = tone::number(tone);
+    let n = tone.number();
     match kind {
-        Kind::Detoned => ToneKey::Nothing,
+        Kind::Detoned => None,
         Kind::Numeric => key_of(b"0123456789"[n]),
         Kind::Telex => key_of(b"01sf4l6jjw"[n]),
     }
 }
 
 // Writes the key at `at`, and returns the place behind it.
-fn put_key(key: ToneKey, out: &mut [u16], at: usize) -> usize
+fn put_key(key: Option<u8>, out: &mut [u16], at: usize) -> usize
     requires { at + length (key_text key) ≤ length out.old }
     ensures { (result ≡ at + length (key_text key)) × (out.new ≡ paste out.old at (key_text key) (length (key_text key))) }
 {
     match key {
-        ToneKey::Nothing => at,
-        ToneKey::Key(k) => {
+        None => at,
+        Some(k) => {
             out[at] = k as u16;
             at + 1
         }
@@ -136,7 +128,7 @@ fn put_key(key: ToneKey, out: &mut [u16], at: usize) -> usize
 // text's code points go to `points`.
 fn respell_bytes(
     form: Form,
-    key: ToneKey,
+    key: Option<u8>,
     stripped: &[u8],
     points: &mut [u16],
     letters: &mut [u16],
@@ -145,8 +137,8 @@ fn respell_bytes(
     ensures { (rest : List ℕ) → members unicode16 rest ≡ true → stripped.now ≡ encode rest → Written letters.old letters.new result (respell (rules_of form) rest ++ key_text key) }
 {
     match unicode::read_points(stripped, points) {
-        Decoded::Refused(_) => 0,
-        Decoded::Points(len) => {
+        Err(_) => 0,
+        Ok(len) => {
             let n = len.0;
             let m = respell(form, &mut points[0..n], letters);
             put_key(key, letters, m)
@@ -155,13 +147,18 @@ fn respell_bytes(
 }
 
 // Writes the first `n` of `bytes`, and the key behind them.
-fn place_toned(bytes: &mut [u8], n: usize, key: ToneKey, out: &mut [u8]) -> TextAnswer
+fn place_toned(
+    bytes: &mut [u8],
+    n: usize,
+    key: Option<u8>,
+    out: &mut [u8],
+) -> Result<ByteLen, Refusal>
     requires { n < length bytes.old }
     ensures { text_reply result out.new ≡ placed 0 (take n bytes.old ++ key_text key) out.old }
 {
     match key {
-        ToneKey::Nothing => reply::place_bytes(&bytes[0..n], out),
-        ToneKey::Key(k) => {
+        None => reply::place_bytes(&bytes[0..n], out),
+        Some(k) => {
             bytes[n] = k;
             let m = n + 1;
             reply::place_bytes(&bytes[0..m], out)
@@ -178,29 +175,25 @@ fn keys_in(
     points: &mut [u16],
     letters: &mut [u16],
     out: &mut [u8],
-) -> TextAnswer
+) -> Result<ByteLen, Refusal>
     requires { (length text.now ≤ 256) × (5 * length text.now + 2 ≤ 2 * length bytes.old) × (length bytes.old ≤ length points.old / 3 * 2) × (2 * length bytes.old < length letters.old) }
     ensures { text_reply result out.new ≡ text_call unicode16 (keys unicode16 form kind) text.now out.old }
 {
-    match strip::strip_tone_diacritic(text, bytes) {
-        Strip::Refused(why) => TextAnswer::Refused(why),
-        Strip::Done(result) => {
-            let len = result.len;
-            let n = len.0;
-            let tone = result.tone;
-            let key = tone_key(kind, tone);
-            if unicode::is_ascii(&bytes[0..n]) {
-                return place_toned(bytes, n, key, out);
-            }
-            let m = respell_bytes(form, key, &bytes[0..n], points, letters);
-            reply::place(&letters[0..m], out)
-        }
+    let result = strip::strip_tone_diacritic(text, bytes)?;
+    let len = result.len;
+    let n = len.0;
+    let tone = result.tone;
+    let key = tone_key(kind, tone);
+    if unicode::is_ascii(&bytes[0..n]) {
+        return place_toned(bytes, n, key, out);
     }
+    let m = respell_bytes(form, key, &bytes[0..n], points, letters);
+    reply::place(&letters[0..m], out)
 }
 
 // In buffers for a text of at most 8 bytes, as a syllable is: clearing small ones is quicker. A stripped text has at most five bytes for each two of the
 // text, and the key takes one more.
-fn keys_short(text: &[u8], form: Form, kind: Kind, out: &mut [u8]) -> TextAnswer
+fn keys_short(text: &[u8], form: Form, kind: Kind, out: &mut [u8]) -> Result<ByteLen, Refusal>
     requires { length text.now ≤ 8 }
     ensures { text_reply result out.new ≡ text_call unicode16 (keys unicode16 form kind) text.now out.old }
 {
@@ -211,7 +204,7 @@ fn keys_short(text: &[u8], form: Form, kind: Kind, out: &mut [u8]) -> TextAnswer
 }
 
 // In buffers for a text of at most 256 bytes.
-fn keys_long(text: &[u8], form: Form, kind: Kind, out: &mut [u8]) -> TextAnswer
+fn keys_long(text: &[u8], form: Form, kind: Kind, out: &mut [u8]) -> Result<ByteLen, Refusal>
     requires { length text.now ≤ 256 }
     ensures { text_reply result out.new ≡ text_call unicode16 (keys unicode16 form kind) text.now out.old }
 {
@@ -222,7 +215,7 @@ fn keys_long(text: &[u8], form: Form, kind: Kind, out: &mut [u8]) -> TextAnswer
 }
 
 // `poj_syl_to_key_sequences` and its `_oo` form: the keys of the syllable `text`, in `out`.
-pub fn keys(text: &[u8], form: Form, kind: Kind, out: &mut [u8]) -> TextAnswer
+pub fn keys(text: &[u8], form: Form, kind: Kind, out: &mut [u8]) -> Result<ByteLen, Refusal>
     ensures { text_reply result out.new ≡ text_call unicode16 (keys unicode16 form kind) text.now out.old }
 {
     if text.len() <= 8 {
@@ -231,5 +224,5 @@ pub fn keys(text: &[u8], form: Form, kind: Kind, out: &mut [u8]) -> TextAnswer
     if text.len() <= 256 {
         return keys_long(text, form, kind, out);
     }
-    TextAnswer::Refused(Refusal::TooLong)
+    Err(Refusal::TooLong)
 }

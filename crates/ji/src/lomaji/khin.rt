@@ -5,10 +5,19 @@ ghost use Rattle.ji.specs.Utf8.{bytes};
 ghost use Rattle.ji.specs.Lomaji.Khin.{after_khin, khin_of, khin_number};
 
 // Whether a text has the mark.
-#[derive(Clone, Copy)]
+#[derive(Clone, Copy, PartialEq, Eq)]
 pub enum Khin {
-    No,
-    Yes,
+    No = 0,
+    Yes = 1,
+}
+
+impl Khin {
+    // Khin as a number: 0 no, 1 yes.
+    pub fn number(self) -> u64
+        ensures { result ≡ khin_number self }
+    {
+        self as u64
+    }
 }
 
 // Whether `text` begins with the bytes `a` and `b`.
@@ -46,14 +55,4 @@ pub fn khin_of(text: &[u8]) -> Khin
     ensures { result ≡ khin_of text.now }
 {
     if has_mark(text) { Khin::Yes } else { Khin::No }
-}
-
-// Khin as a number: 0 no, 1 yes.
-pub fn number(khin: Khin) -> u64
-    ensures { result ≡ khin_number khin }
-{
-    match khin {
-        Khin::No => 0,
-        Khin::Yes => 1,
-    }
 }

@@ -10,7 +10,7 @@ ghost use Rattle.ji.specs.Lomaji.Strip.{is_tone_mark};
 ghost use Rattle.ji.specs.Lomaji.Quick.{IsLetter, Further, Walked};
 
 use crate::lomaji::strip::mark_tone;
-use crate::tone::{Tone, is_tone};
+use crate::tone::Tone;
 use crate::unicode::ByteLen;
 use crate::{nfd, utf8};
 use ucd::Mapping;
@@ -23,13 +23,6 @@ struct Progress {
     mark: u16,
     behind: u16,
     sorted: bool,
-}
-
-// What the walk gives: the stripped text in the buffer and the tone of its last mark, None where it has none.
-#[derive(Clone, Copy)]
-pub(crate) enum Outcome {
-    Whole(ByteLen, Tone),
-    GivenUp,
 }
 
 // Takes an ASCII character.
@@ -101,7 +94,7 @@ fn push(x: u16, out: &mut [u8], p: Progress) -> Progress
     requires { p.n + 3 ≤ length out.old }
     ensures { (result.n ≤ p.n + 3) × Further p result out.old out.new (x ∷ []) }
 {
-    if is_tone(mark_tone(x)) {
+    if mark_tone(x).is_tone() {
         return Progress {
             n: p.n,
             mark: x,
@@ -210,8 +203,8 @@ fn push_point(c: u16, out: &mut [u8], p: Progress) -> Progress
     push_decomposed(c, out, p)
 }
 
-// The stripped text of `s`, in UTF-8, written to the front of `out`, and its tone.
-pub(crate) fn walk(s: &[u8], out: &mut [u8]) -> Outcome
+// The stripped text of `s`, in UTF-8, written to the front of `out`: its length, and the tone of its last mark, Tone::None where it has none.
+pub(crate) fn walk(s: &[u8], out: &mut [u8]) -> Option<(ByteLen, Tone)>
     requires { (length s.now ≤ length out.old) × (length out.old ≤ 65536) }
     ensures { Walked s.now out.old out.new result }
 {
@@ -232,21 +225,21 @@ pub(crate) fn walk(s: &[u8], out: &mut [u8]) -> Outcome
             let width = sequence.width;
             let point = sequence.point;
             if width == 0 {
-                return Outcome::GivenUp;
+                return None;
             }
             if out.len() < p.n + (s.len() - i) + 9 {
-                return Outcome::GivenUp;
+                return None;
             }
             if ucd::is_member(point) {
                 p = push_point(point as u16, out, p);
                 i += width;
             } else {
-                return Outcome::GivenUp;
+                return None;
             }
         }
     }
     if p.sorted {
-        return Outcome::Whole(ByteLen(p.n), mark_tone(p.mark));
+        return Some((ByteLen(p.n), mark_tone(p.mark)));
     }
-    Outcome::GivenUp
+    None
 }

@@ -8,7 +8,7 @@ ghost use Rattle.ji.specs.Lomaji.Strip.{mark_tone, strip_reply};
 ghost use Rattle.ji.specs.Lomaji.Single.{KeptTo, MarkedAt};
 
 use crate::lomaji::quick;
-use crate::lomaji::strip::{Strip, StripResult, mark_tone};
+use crate::lomaji::strip::{StripResult, mark_tone};
 use crate::reply;
 use crate::reply::Refusal;
 use crate::unicode::ByteLen;
@@ -92,19 +92,24 @@ pub(crate) fn marked_at(s: &[u8], at: usize) -> u32
 }
 
 // Writes the text without the mark of the letter at `at`, and answers its length and its tone.
-pub(crate) fn place_marked(text: &[u8], at: usize, letter: u32, out: &mut [u8]) -> Strip
+pub(crate) fn place_marked(
+    text: &[u8],
+    at: usize,
+    letter: u32,
+    out: &mut [u8],
+) -> Result<StripResult, Refusal>
     requires { (at + 2 ≤ length text.now) × (letter / 65536 < 0x80) }
     ensures { strip_reply result out.new ≡ placed (tone_number (mark_tone (letter % 65536))) (take at text.now ++ (letter / 65536 ∷ drop (at + 2) text.now)) out.old }
 {
     if out.len() < text.len() - 1 {
-        return Strip::Refused(Refusal::NoRoom);
+        return Err(Refusal::NoRoom);
     }
     reply::copy(&text[0..at], out);
     out[at] = (letter / 65536) as u8;
     let next = at + 1;
     let behind = at + 2;
     reply::copy(&text[behind..], &mut out[next..]);
-    Strip::Done(StripResult {
+    Ok(StripResult {
         len: ByteLen(text.len() - 1),
         tone: mark_tone((letter % 65536) as u16),
     })

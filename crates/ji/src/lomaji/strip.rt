@@ -8,12 +8,11 @@ ghost use Rattle.ji.specs.Tone.{tone_number};
 ghost use Rattle.ji.specs.Reply.{placed};
 ghost use Rattle.ji.specs.Lomaji.Strip.{mark_tone, without_marks, dropped_marks, last_tone, ends_in, ends_in_any, stop_endings, unmarked_tone, tone_or, stripped_reply, strip_call, strip_reply};
 
-use crate::lomaji::quick::Outcome;
 use crate::lomaji::{quick, single};
 use crate::reply::Refusal;
 use crate::text::lower_byte;
-use crate::tone::{Tone, is_tone};
-use crate::unicode::{ByteLen, CharLen, Decoded};
+use crate::tone::Tone;
+use crate::unicode::{ByteLen, CharLen};
 use crate::{nfd, reply, unicode, utf8};
 
 // The length of the stripped text, and the tone.
@@ -21,13 +20,6 @@ use crate::{nfd, reply, unicode, utf8};
 pub struct StripResult {
     pub len: ByteLen,
     pub tone: Tone,
-}
-
-// What the call answers.
-#[derive(Clone, Copy)]
-pub enum Strip {
-    Done(StripResult),
-    Refused(Refusal),
 }
 
 // The tone of a mark, None of any other code point.
@@ -63,7 +55,7 @@ pub(crate) fn drop_marks(s: &mut [u16]) -> Dropped
     while i < s.len() {
         let c = s[i];
         let tone = mark_tone(c);
-        if is_tone(tone) {
+        if tone.is_tone() {
             last = tone;
             i += 1;
         } else {
@@ -129,32 +121,32 @@ pub fn unmarked_tone(s: &[u8]) -> Tone
 pub(crate) fn tone_of(last: Tone, s: &[u8]) -> Tone
     ensures { result ≡ tone_or last (unmarked_tone s.now) }
 {
-    if is_tone(last) {
+    if last.is_tone() {
         return last;
     }
     unmarked_tone(s)
 }
 
 // Writes the stripped text `s` to `out`, and answers its length and its tone.
-fn place(s: &[u16], last: Tone, out: &mut [u8]) -> Strip
+fn place(s: &[u16], last: Tone, out: &mut [u8]) -> Result<StripResult, Refusal>
     requires { length s.now ≤ 65536 }
     ensures { strip_reply result out.new ≡ placed (tone_number (tone_or last (unmarked_tone (encode s.now)))) (encode s.now) out.old }
 {
     let needed = utf8::encoded_len(s);
     if out.len() < needed.0 {
-        return Strip::Refused(Refusal::NoRoom);
+        return Err(Refusal::NoRoom);
     }
     let len = utf8::encode(s, out);
     let n = len.0;
     let tone = tone_of(last, &out[0..n]);
-    Strip::Done(StripResult {
+    Ok(StripResult {
         len: len,
         tone: tone,
     })
 }
 
 // Puts the fully decomposed text `s` into canonical order, drops its marks and writes what is left.
-fn finish(s: &mut [u16], out: &mut [u8]) -> Strip
+fn finish(s: &mut [u16], out: &mut [u8]) -> Result<StripResult, Refusal>
     requires { length s.old ≤ 65536 }
     ensures { strip_reply result out.new ≡ stripped_reply (order unicode16 s.old) out.old }
 {
@@ -167,21 +159,17 @@ fn finish(s: &mut [u16], out: &mut [u8]) -> Strip
 }
 
 // Strips `text` in a buffer of code points.
-fn strip_in(text: &[u8], points: &mut [u16], out: &mut [u8]) -> Strip
+fn strip_in(text: &[u8], points: &mut [u16], out: &mut [u8]) -> Result<StripResult, Refusal>
     requires { (length text.now ≤ 256) × (3 * length text.now ≤ 2 * length points.old) × (length points.old ≤ 65536) }
     ensures { strip_reply result out.new ≡ strip_call unicode16 text.now out.old }
 {
-    match unicode::decode(text, true, points) {
-        Decoded::Refused(why) => Strip::Refused(why),
-        Decoded::Points(len) => {
-            let n = len.0;
-            finish(&mut points[0..n], out)
-        }
-    }
+    let len = unicode::decode(text, true, points)?;
+    let n = len.0;
+    finish(&mut points[0..n], out)
 }
 
 // In a buffer for a text of at most 32 bytes: clearing a small one is quicker.
-fn strip_in_short(text: &[u8], out: &mut [u8]) -> Strip
+fn strip_in_short(text: &[u8], out: &mut [u8]) -> Result<StripResult, Refusal>
     requires { length text.now ≤ 32 }
     ensures { strip_reply result out.new ≡ strip_call unicode16 text.now out.old }
 {
@@ -190,7 +178,7 @@ fn strip_in_short(text: &[u8], out: &mut [u8]) -> Strip
 }
 
 // In a buffer for any text.
-fn strip_in_long(text: &[u8], out: &mut [u8]) -> Strip
+fn strip_in_long(text: &[u8], out: &mut [u8]) -> Result<StripResult, Refusal>
     requires { length text.now ≤ 256 }
     ensures { strip_reply result out.new ≡ strip_call unicode16 text.now out.old }
 {
@@ -199,7 +187,7 @@ fn strip_in_long(text: &[u8], out: &mut [u8]) -> Strip
 }
 
 // Strips a text step by step: what the quick walk gives up.
-fn strip_slowly(text: &[u8], out: &mut [u8]) -> Strip
+fn strip_slowly(text: &[u8], out: &mut [u8]) -> Result<StripResult, Refusal>
     requires { length text.now ≤ 256 }
     ensures { strip_reply result out.new ≡ strip_call unicode16 text.now out.old }
 {
@@ -210,27 +198,27 @@ fn strip_slowly(text: &[u8], out: &mut [u8]) -> Strip
 }
 
 // Writes the bytes of a stripped text to `out`, and answers its length and its tone.
-fn place_bytes(s: &[u8], last: Tone, out: &mut [u8]) -> Strip
+fn place_bytes(s: &[u8], last: Tone, out: &mut [u8]) -> Result<StripResult, Refusal>
     ensures { strip_reply result out.new ≡ placed (tone_number (tone_or last (unmarked_tone s.now))) s.now out.old }
 {
     if out.len() < s.len() {
-        return Strip::Refused(Refusal::NoRoom);
+        return Err(Refusal::NoRoom);
     }
     reply::copy(s, out);
-    Strip::Done(StripResult {
+    Ok(StripResult {
         len: ByteLen(s.len()),
         tone: tone_of(last, s),
     })
 }
 
 // Strips a text in one walk into a buffer of bytes, or else step by step.
-fn strip_by(text: &[u8], bytes: &mut [u8], out: &mut [u8]) -> Strip
+fn strip_by(text: &[u8], bytes: &mut [u8], out: &mut [u8]) -> Result<StripResult, Refusal>
     requires { (length text.now ≤ 256) × (length text.now ≤ length bytes.old) × (length bytes.old ≤ 65536) }
     ensures { strip_reply result out.new ≡ strip_call unicode16 text.now out.old }
 {
     match quick::walk(text, bytes) {
-        Outcome::GivenUp => strip_slowly(text, out),
-        Outcome::Whole(len, last) => {
+        None => strip_slowly(text, out),
+        Some((len, last)) => {
             let n = len.0;
             place_bytes(&bytes[0..n], last, out)
         }
@@ -238,7 +226,7 @@ fn strip_by(text: &[u8], bytes: &mut [u8], out: &mut [u8]) -> Strip
 }
 
 // A text of at most 32 bytes. Stripping makes a text longer by half at most, so the walk always has room.
-fn strip_short(text: &[u8], out: &mut [u8]) -> Strip
+fn strip_short(text: &[u8], out: &mut [u8]) -> Result<StripResult, Refusal>
     requires { length text.now ≤ 32 }
     ensures { strip_reply result out.new ≡ strip_call unicode16 text.now out.old }
 {
@@ -246,7 +234,7 @@ fn strip_short(text: &[u8], out: &mut [u8]) -> Strip
     strip_by(text, &mut bytes, out)
 }
 
-fn strip_long(text: &[u8], out: &mut [u8]) -> Strip
+fn strip_long(text: &[u8], out: &mut [u8]) -> Result<StripResult, Refusal>
     requires { length text.now ≤ 256 }
     ensures { strip_reply result out.new ≡ strip_call unicode16 text.now out.old }
 {
@@ -255,7 +243,7 @@ fn strip_long(text: &[u8], out: &mut [u8]) -> Strip
 }
 
 // A text of any kind.
-fn strip_any(text: &[u8], out: &mut [u8]) -> Strip
+fn strip_any(text: &[u8], out: &mut [u8]) -> Result<StripResult, Refusal>
     requires { length text.now ≤ 256 }
     ensures { strip_reply result out.new ≡ strip_call unicode16 text.now out.old }
 {
@@ -266,11 +254,11 @@ fn strip_any(text: &[u8], out: &mut [u8]) -> Strip
 }
 
 // The text without its tone marks, in NFD, in `out`, and its tone. Most texts are kept whole, or have one letter with a mark.
-pub fn strip_tone_diacritic(text: &[u8], out: &mut [u8]) -> Strip
+pub fn strip_tone_diacritic(text: &[u8], out: &mut [u8]) -> Result<StripResult, Refusal>
     ensures { strip_reply result out.new ≡ strip_call unicode16 text.now out.old }
 {
     if 256 < text.len() {
-        return Strip::Refused(Refusal::TooLong);
+        return Err(Refusal::TooLong);
     }
     let at = single::kept_to(text, 0);
     if at == text.len() {

@@ -6,15 +6,8 @@ ghost use Rattle.ucd.specs.Unicode16.{unicode16};
 ghost use Rattle.ji.specs.Lomaji.ToneLetter.{patterns, matches, searched, tone_letter, place_of, byte_place_of, is_some, letter_at, tone_letter_call, tone_letter_reply, has_letter_reply, has_tone_letter_call, has_tone_letter_reply};
 
 use crate::reply::Refusal;
-use crate::unicode::{ByteLen, CharLen, Decoded};
+use crate::unicode::{ByteLen, CharLen};
 use crate::{nfd, text, unicode};
-
-// Where a tone letter stands, in code points.
-#[derive(Clone, Copy)]
-pub enum Place {
-    At(CharLen),
-    Nowhere,
-}
 
 // The letters of the patterns, as code points.
 const A: u16 = b'a' as u16;
@@ -155,17 +148,17 @@ fn first_tried(s: &[u16]) -> usize
 }
 
 // The place of the tone letter: the first pattern that occurs, at its first place. Finding it ends the search over both.
-pub fn tone_position(s: &[u16]) -> Place
+pub fn tone_position(s: &[u16]) -> Option<CharLen>
     ensures { place_of result ≡ tone_letter s.now }
 {
-    let mut place = Place::Nowhere;
+    let mut place = None;
     let mut k = first_tried(s);
     'patterns: while k < PATTERNS {
         let first = first_of(k);
         let mut at: usize = 0;
         while at < s.len() {
             if stands_at(s, at, k, first) {
-                place = Place::At(CharLen(at + letter_of(k)));
+                place = Some(CharLen(at + letter_of(k)));
                 break 'patterns;
             }
             at += 1;
@@ -229,25 +222,18 @@ fn ascii_first_tried(s: &[u8]) -> usize
     2
 }
 
-// Where a tone letter stands, in bytes.
-#[derive(Clone, Copy)]
-pub enum BytePlace {
-    At(ByteLen),
-    Nowhere,
-}
-
 // The place of the tone letter of an ASCII text.
-pub fn ascii_tone_position(s: &[u8]) -> BytePlace
+pub fn ascii_tone_position(s: &[u8]) -> Option<ByteLen>
     ensures { byte_place_of result ≡ tone_letter s.now }
 {
-    let mut place = BytePlace::Nowhere;
+    let mut place = None;
     let mut k = ascii_first_tried(s);
     'patterns: while k < PATTERNS {
         let first = first_of(k);
         let mut at: usize = 0;
         while at < s.len() {
             if ascii_stands_at(s, at, k, first) {
-                place = BytePlace::At(ByteLen(at + letter_of(k)));
+                place = Some(ByteLen(at + letter_of(k)));
                 break 'patterns;
             }
             at += 1;
@@ -281,41 +267,29 @@ pub fn holds_letter(s: &[u16]) -> bool
     false
 }
 
-// What the call answers: where the tone letter stands, in bytes, or that there is none.
-#[derive(Clone, Copy)]
-pub enum ToneLetter {
-    At(ByteLen),
-    Nothing,
-    Refused(Refusal),
-}
-
 // The tone letter of a text that was read: its place among the code points, turned into bytes.
-fn letter_in(s: &[u16]) -> ToneLetter
+fn letter_in(s: &[u16]) -> Result<Option<ByteLen>, Refusal>
     requires { length s.now ≤ 65536 }
     ensures { tone_letter_reply result ≡ letter_at s.now (tone_letter s.now) }
 {
     match tone_position(s) {
-        Place::At(chars) => ToneLetter::At(unicode::to_byte_len(s, chars)),
-        Place::Nowhere => ToneLetter::Nothing,
+        Some(chars) => Ok(Some(unicode::to_byte_len(s, chars))),
+        None => Ok(None),
     }
 }
 
 // The tone letter of a text, whose code points are read into `points`.
-fn letter_by(text: &[u8], points: &mut [u16]) -> ToneLetter
+fn letter_by(text: &[u8], points: &mut [u16]) -> Result<Option<ByteLen>, Refusal>
     requires { (length text.now ≤ 256) × (length text.now ≤ length points.old / 3 * 2) × (length points.old ≤ 65536) }
     ensures { tone_letter_reply result ≡ tone_letter_call unicode16 text.now }
 {
-    match unicode::read_points(text, points) {
-        Decoded::Refused(why) => ToneLetter::Refused(why),
-        Decoded::Points(len) => {
-            let n = len.0;
-            letter_in(&points[0..n])
-        }
-    }
+    let len = unicode::read_points(text, points)?;
+    let n = len.0;
+    letter_in(&points[0..n])
 }
 
 // `get_tone_position`: the tone letter of `text` as it stands. Short texts go in a small buffer, since clearing it is quicker.
-pub fn tone_letter(text: &[u8]) -> ToneLetter
+pub fn tone_letter(text: &[u8]) -> Result<Option<ByteLen>, Refusal>
     ensures { tone_letter_reply result ≡ tone_letter_call unicode16 text.now }
 {
     if text.len() <= 16 {
@@ -326,37 +300,21 @@ pub fn tone_letter(text: &[u8]) -> ToneLetter
         let mut points = [0u16; 384];
         return letter_by(text, &mut points);
     }
-    ToneLetter::Refused(Refusal::TooLong)
-}
-
-// What `has_tone_letter` answers.
-#[derive(Clone, Copy)]
-pub enum HasToneLetter {
-    Yes,
-    No,
-    Refused(Refusal),
+    Err(Refusal::TooLong)
 }
 
 // Whether the NFD of `text` has a tone letter.
-pub fn has_tone_letter(text: &[u8]) -> HasToneLetter
+pub fn has_tone_letter(text: &[u8]) -> Result<bool, Refusal>
     ensures { has_tone_letter_reply result ≡ has_tone_letter_call unicode16 text.now }
 {
     let mut points = [0u16; 384];
-    match nfd::read_nfd(text, &mut points) {
-        Decoded::Refused(why) => HasToneLetter::Refused(why),
-        Decoded::Points(len) => {
-            let n = len.0;
-            has_letter(&points[0..n])
-        }
-    }
+    let len = nfd::read_nfd(text, &mut points)?;
+    let n = len.0;
+    has_letter(&points[0..n])
 }
 
-fn has_letter(s: &[u16]) -> HasToneLetter
+fn has_letter(s: &[u16]) -> Result<bool, Refusal>
     ensures { has_tone_letter_reply result ≡ has_letter_reply (is_some (tone_letter s.now)) }
 {
-    if holds_letter(s) {
-        HasToneLetter::Yes
-    } else {
-        HasToneLetter::No
-    }
+    if holds_letter(s) { Ok(true) } else { Ok(false) }
 }

@@ -14,11 +14,11 @@ use crate::syllable::letters::{is_first, is_second};
 use crate::syllable::marking::{answer, insert_mark, place_spelled};
 use crate::syllable::plain::compose_plain;
 use ji::lomaji::khin::Khin;
-use ji::reply::{Refusal, TextAnswer};
+use ji::reply::Refusal;
 use ji::text::{lower, replace_pair};
 use ji::tone::Tone;
 use ji::unicode;
-use ji::unicode::{Decoded, Verdict};
+use ji::unicode::ByteLen;
 
 // The signs of a nasal vowel, small and capital. No code point of the table below the first of them is one.
 const SMALL_SIGN: u16 = 0x207F;
@@ -569,21 +569,23 @@ fn compose_body(
     khin: Khin,
     points: &mut [u16],
     out: &mut [u8],
-) -> TextAnswer
+) -> Result<ByteLen, Refusal>
     requires { (length body.now ≤ 256) × (length body.now ≤ length points.old) × (length body.now + 1 < length points.old) }
     ensures { (raw_input : List ℕ) → raw.now ≡ encode raw_input → text_reply result out.new ≡ compose_of unicode16 tone khin (good raw_input) (check_text unicode16 body.now) out.old }
 {
-    match unicode::code_points(body, points) {
-        Decoded::Refused(why) => TextAnswer::Refused(why),
-        Decoded::Points(len) => {
-            let n = len.0;
-            answer(compose_points(raw, points, n, tone, khin, out))
-        }
-    }
+    let len = unicode::code_points(body, points)?;
+    let n = len.0;
+    answer(compose_points(raw, points, n, tone, khin, out))
 }
 
 // A short body, in a small buffer, since clearing this is quicker.
-fn compose_short(raw: &[u8], body: &[u8], tone: Tone, khin: Khin, out: &mut [u8]) -> TextAnswer
+fn compose_short(
+    raw: &[u8],
+    body: &[u8],
+    tone: Tone,
+    khin: Khin,
+    out: &mut [u8],
+) -> Result<ByteLen, Refusal>
     requires { length body.now ≤ 16 }
     ensures { (raw_input : List ℕ) → raw.now ≡ encode raw_input → text_reply result out.new ≡ compose_of unicode16 tone khin (good raw_input) (check_text unicode16 body.now) out.old }
 {
@@ -592,7 +594,13 @@ fn compose_short(raw: &[u8], body: &[u8], tone: Tone, khin: Khin, out: &mut [u8]
 }
 
 // Any other.
-fn compose_long(raw: &[u8], body: &[u8], tone: Tone, khin: Khin, out: &mut [u8]) -> TextAnswer
+fn compose_long(
+    raw: &[u8],
+    body: &[u8],
+    tone: Tone,
+    khin: Khin,
+    out: &mut [u8],
+) -> Result<ByteLen, Refusal>
     requires { length body.now ≤ 256 }
     ensures { (raw_input : List ℕ) → raw.now ≡ encode raw_input → text_reply result out.new ≡ compose_of unicode16 tone khin (good raw_input) (check_text unicode16 body.now) out.old }
 {
@@ -601,7 +609,13 @@ fn compose_long(raw: &[u8], body: &[u8], tone: Tone, khin: Khin, out: &mut [u8])
 }
 
 // A body of any length that is allowed.
-fn compose_any(raw: &[u8], body: &[u8], tone: Tone, khin: Khin, out: &mut [u8]) -> TextAnswer
+fn compose_any(
+    raw: &[u8],
+    body: &[u8],
+    tone: Tone,
+    khin: Khin,
+    out: &mut [u8],
+) -> Result<ByteLen, Refusal>
     requires { length body.now ≤ 256 }
     ensures { (raw_input : List ℕ) → raw.now ≡ encode raw_input → text_reply result out.new ≡ compose_of unicode16 tone khin (good raw_input) (check_text unicode16 body.now) out.old }
 {
@@ -616,16 +630,18 @@ fn compose_any(raw: &[u8], body: &[u8], tone: Tone, khin: Khin, out: &mut [u8]) 
 }
 
 // `compose`: the text of the syllable with this raw input, body, tone and khin, in `out`.
-pub fn compose(raw: &[u8], body: &[u8], tone: Tone, khin: Khin, out: &mut [u8]) -> TextAnswer
+pub fn compose(
+    raw: &[u8],
+    body: &[u8],
+    tone: Tone,
+    khin: Khin,
+    out: &mut [u8],
+) -> Result<ByteLen, Refusal>
     ensures { text_reply result out.new ≡ compose_call unicode16 raw.now body.now tone khin out.old }
 {
-    match unicode::check(raw, 256) {
-        Verdict::Refused(why) => TextAnswer::Refused(why),
-        Verdict::Good => {
-            if 256 < body.len() {
-                return TextAnswer::Refused(Refusal::TooLong);
-            }
-            compose_any(raw, body, tone, khin, out)
-        }
+    unicode::check(raw, 256)?;
+    if 256 < body.len() {
+        return Err(Refusal::TooLong);
     }
+    compose_any(raw, body, tone, khin, out)
 }

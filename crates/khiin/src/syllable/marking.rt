@@ -8,35 +8,28 @@ ghost use Rattle.ji.specs.Reply.{placed, text_reply};
 ghost use Rattle.khiin.specs.Syllable.{mark_of, encoded, composed_with};
 ghost use Rattle.khiin.specs.Compose.{Front, mark_text, answer_of, stays_behind, settled_from, Joined, inserted};
 
-use ji::lomaji::tone_letter::{Place, tone_position};
+use ji::lomaji::tone_letter::tone_position;
 use ji::nfc::place_exchanged;
 use ji::reply;
-use ji::reply::{Refusal, TextAnswer};
+use ji::reply::Refusal;
 use ji::tone::Tone;
 use ji::unicode::ByteLen;
 
-// What a tone adds.
-#[derive(Clone, Copy)]
-pub(crate) enum Mark {
-    Nothing,
-    Point(u16),
-}
-
 // The mark of a tone.
-pub(crate) fn mark_of(tone: Tone) -> Mark
+pub(crate) fn mark_of(tone: Tone) -> Option<u16>
     ensures { mark_text result ≡ mark_of tone }
 {
     match tone {
-        Tone::None => Mark::Nothing,
-        Tone::T1 => Mark::Nothing,
-        Tone::T2 => Mark::Point(0x0301),
-        Tone::T3 => Mark::Point(0x0300),
-        Tone::T4 => Mark::Nothing,
-        Tone::T5 => Mark::Point(0x0302),
-        Tone::T6 => Mark::Point(0x0303),
-        Tone::T7 => Mark::Point(0x0304),
-        Tone::T8 => Mark::Point(0x030D),
-        Tone::T9 => Mark::Point(0x0306),
+        Tone::None => None,
+        Tone::T1 => None,
+        Tone::T2 => Some(0x0301),
+        Tone::T3 => Some(0x0300),
+        Tone::T4 => None,
+        Tone::T5 => Some(0x0302),
+        Tone::T6 => Some(0x0303),
+        Tone::T7 => Some(0x0304),
+        Tone::T8 => Some(0x030D),
+        Tone::T9 => Some(0x0306),
     }
 }
 
@@ -254,8 +247,8 @@ fn place(s: &[u16], out: &mut [u8]) -> usize
     ensures { text_reply (answer_of result) out.new ≡ placed 0 (encode s.now) out.old }
 {
     match reply::place(s, out) {
-        TextAnswer::Refused(_) => 0,
-        TextAnswer::Done(len) => len.0 + 1,
+        Err(_) => 0,
+        Ok(len) => len.0 + 1,
     }
 }
 
@@ -264,8 +257,8 @@ pub(crate) fn place_bytes(s: &[u8], out: &mut [u8]) -> usize
     ensures { text_reply (answer_of result) out.new ≡ placed 0 s.now out.old }
 {
     match reply::place_bytes(s, out) {
-        TextAnswer::Refused(_) => 0,
-        TextAnswer::Done(len) => len.0 + 1,
+        Err(_) => 0,
+        Ok(len) => len.0 + 1,
     }
 }
 
@@ -274,19 +267,19 @@ pub(crate) fn place_between(before: &[u8], x: u16, after: &[u8], out: &mut [u8])
     ensures { text_reply (answer_of result) out.new ≡ placed 0 (before.now ++ (bytes_of x ++ after.now)) out.old }
 {
     match reply::place_between(before, x, after, out) {
-        TextAnswer::Refused(_) => 0,
-        TextAnswer::Done(len) => len.0 + 1,
+        Err(_) => 0,
+        Ok(len) => len.0 + 1,
     }
 }
 
 // The answer that such a number stands for.
-pub(crate) fn answer(size: usize) -> TextAnswer
+pub(crate) fn answer(size: usize) -> Result<ByteLen, Refusal>
     ensures { result ≡ answer_of size }
 {
     if size == 0 {
-        return TextAnswer::Refused(Refusal::NoRoom);
+        return Err(Refusal::NoRoom);
     }
-    TextAnswer::Done(ByteLen(size - 1))
+    Ok(ByteLen(size - 1))
 }
 
 // Writes `s` in compose's encoding to `out`: its NFC, with each U+0324 U+030D exchanged.
@@ -295,8 +288,8 @@ fn place_encoded(s: &[u16], out: &mut [u8]) -> usize
     ensures { text_reply (answer_of result) out.new ≡ placed 0 (encode (encoded unicode16 s.now)) out.old }
 {
     match place_exchanged(s, 0x0324, 0x030D, out) {
-        TextAnswer::Refused(_) => 0,
-        TextAnswer::Done(len) => len.0 + 1,
+        Err(_) => 0,
+        Ok(len) => len.0 + 1,
     }
 }
 
@@ -355,10 +348,10 @@ pub(crate) fn place_spelled(
     ensures { (raw_input : List ℕ) → raw.now ≡ encode raw_input → text_reply (answer_of result) out.new ≡ placed 0 (encode (composed_with unicode16 raw_input (take n s.old) (mark_of tone))) out.old }
 {
     match mark_of(tone) {
-        Mark::Nothing => place_unmarked(&s[0..n], out),
-        Mark::Point(mark) => match tone_position(&s[0..n]) {
-            Place::Nowhere => place_bytes(raw, out),
-            Place::At(place) => {
+        None => place_unmarked(&s[0..n], out),
+        Some(mark) => match tone_position(&s[0..n]) {
+            None => place_bytes(raw, out),
+            Some(place) => {
                 let k = place.0;
                 place_marked(s, n, k, mark, out)
             }

@@ -9,9 +9,9 @@ ghost use Rattle.khiin.specs.Syllable.{ends_nasal, mark_of, encoded, composed_wi
 ghost use Rattle.khiin.specs.Compose.{Plain, QuickAs};
 
 use crate::syllable::letters::{is_first, is_second};
-use crate::syllable::marking::{Mark, joined, mark_of, place_between, place_bytes};
+use crate::syllable::marking::{joined, mark_of, place_between, place_bytes};
 use ji::lomaji::khin::Khin;
-use ji::lomaji::tone_letter::{BytePlace, ascii_tone_position};
+use ji::lomaji::tone_letter::ascii_tone_position;
 use ji::text::lower;
 use ji::tone::Tone;
 
@@ -81,10 +81,10 @@ fn place_plain(raw: &[u8], s: &[u8], tone: Tone, out: &mut [u8]) -> usize
     ensures { (raw_input : List ℕ) → raw.now ≡ encode raw_input → QuickAs result out.old out.new (placed 0 (encode (composed_with unicode16 raw_input s.now (mark_of tone))) out.old) }
 {
     match mark_of(tone) {
-        Mark::Nothing => place_bytes(s, out),
-        Mark::Point(mark) => match ascii_tone_position(s) {
-            BytePlace::Nowhere => place_bytes(raw, out),
-            BytePlace::At(place) => {
+        None => place_bytes(s, out),
+        Some(mark) => match ascii_tone_position(s) {
+            None => place_bytes(raw, out),
+            Some(place) => {
                 let k = place.0;
                 place_joined(s, k, mark, out)
             }

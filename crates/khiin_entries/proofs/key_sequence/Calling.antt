@@ -14,8 +14,6 @@ use Rattle.ji.specs.Utf8.{encode}
 use Rattle.ji.specs.Reply.{Reply, refused, over, pick_reply, Checked, good, bad, pick_checked, check_within, verdict_of}
 use Rattle.ji.specs.declared.reply.Refusal.{Refusal}
 use Rattle.ji.specs.declared.reply.Refusal.TheVariants.{Parts, Position, NoRoom}
-use Rattle.ji.specs.declared.unicode.Verdict.{Verdict}
-use Rattle.ji.specs.declared.unicode.Verdict.TheVariants.{Good, Refused}
 use Rattle.ji.specs.declared.lomaji.keys.Kind.{Kind}
 use Rattle.ji.proofs.Bools.{either, and_yes}
 use Rattle.ji.proofs.unicode.Checked.{Passed, check_passed}
@@ -26,6 +24,7 @@ use Rattle.khiin_entries.proofs.key_sequence.Combining.{count_is, keying_is}
 use Rattle.khiin_entries.proofs.key_sequence.Product.{size, place}
 use Rattle.khiin_entries.proofs.key_sequence.Laying.{count_laid, keying_laid}
 use Rattle.khiin_entries.proofs.key_sequence.Filling.{entry_passed, entry_parts}
+use Rattle.std.specs.Prelude.{Result, Ok, Err, ⊤}
 
 -- ── the reply from the arrays
 module _ (count : ℕ) (output : List ℕ) (position : ℕ) (buffer : List ℕ) where
@@ -93,22 +92,22 @@ module _ {entry : List ℕ} {parts : ℕ} (h : Entry entry parts) (kind : Kind) 
 
 -- ── any entry
 -- what a verdict says of the check
-verdict_good : (c : Checked) → verdict_of c ≡ Good → (s : List ℕ) × (c ≡ good s)
+verdict_good : (c : Checked) → verdict_of c ≡ Ok tt → (s : List ℕ) × (c ≡ good s)
 verdict_good (good s) e = (s, refl)
 verdict_good (bad why) e = absurd (let z : ◌≡◌ {A = ℕ} 0 1 = cc in omega arith)
 
-pub verdict_bad : (c : Checked) (why : Refusal) → verdict_of c ≡ Refused why → c ≡ bad why
+pub verdict_bad : (c : Checked) (why : Refusal) → verdict_of c ≡ Err why → c ≡ bad why
 verdict_bad (good s) why e = absurd (let z : ◌≡◌ {A = ℕ} 0 1 = cc in omega arith)
 verdict_bad (bad w) why e = cc
 
-module _ (entry : List ℕ) (answer : Verdict) (says : answer ≡ verdict_of (check_within unicode16 1024 entry)) where
-  pub call_refused : (kind : Kind) (position : ℕ) (buffer : List ℕ) (why : Refusal) → answer ≡ Refused why → refused why buffer ≡ keying_call unicode16 entry kind position buffer
+module _ (entry : List ℕ) (answer : Result ⊤ Refusal) (says : answer ≡ verdict_of (check_within unicode16 1024 entry)) where
+  pub call_refused : (kind : Kind) (position : ℕ) (buffer : List ℕ) (why : Refusal) → answer ≡ Err why → refused why buffer ≡ keying_call unicode16 entry kind position buffer
   unfolding keying_call check_entry
   call_refused kind position buffer why e =
       sym (ap (λ (c : Checked). keying_of unicode16 kind (check_parts unicode16 c) position buffer) (verdict_bad (check_within unicode16 1024 entry) why (sym says ∙ e)))
 
   -- the entry is good
-  module _ (e : answer ≡ Good) where
+  module _ (e : answer ≡ Ok tt) where
     pub text : List ℕ
     text = (verdict_good (check_within unicode16 1024 entry) (sym says ∙ e)).0
 

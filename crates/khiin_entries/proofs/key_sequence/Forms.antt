@@ -14,8 +14,6 @@ use Rattle.ji.specs.Reply.{Reply, refusal_number, refused, over, answered, pick_
 use Rattle.ji.specs.Lomaji.Keys.{keys}
 use Rattle.ji.specs.declared.reply.Refusal.{Refusal}
 use Rattle.ji.specs.declared.reply.Refusal.TheVariants.{Argument, TooLong, IllFormed, OutsideTable, Parts, Position, NoRoom}
-use Rattle.ji.specs.declared.reply.TextAnswer.{TextAnswer}
-use Rattle.ji.specs.declared.reply.TextAnswer.TheVariants.{Done, Refused}
 use Rattle.ji.specs.declared.unicode.ByteLen.{ByteLen}
 use Rattle.ji.specs.declared.lomaji.keys.Form.{Form}
 use Rattle.ji.specs.declared.lomaji.keys.Form.TheVariants.{Plain, Oo}
@@ -30,6 +28,7 @@ use Rattle.khiin_entries.specs.KeySequence.{pick_texts, holds_dot, alone, forms,
 use Rattle.ji.specs.Lomaji.Dot.{dot_in}
 use Rattle.khiin_entries.specs.Choices.{points_of, form_bytes, is_toned, choices_of}
 use Rattle.khiin_entries.proofs.key_sequence.Splitting.{dot_bytes}
+use Rattle.std.specs.Prelude.{Result, Ok, Err}
 
 -- ── what the call gives
 refusal_some : (why : Refusal) → 0 < refusal_number why
@@ -49,18 +48,18 @@ module _ (form : Form) (kind : Kind) (part buffer : List ℕ) (h : check_text un
       sym (text_good unicode16 (keys unicode16 form kind) part buffer (points_of part) h)
       ∙ ap (λ (b : Bool). pick_reply b (answered 0 output buffer) (refused NoRoom buffer)) (le-leb (length output) (length buffer) room)
 
-  module _ (answer : TextAnswer) (after : List ℕ) (says : text_reply answer after ≡ text_call unicode16 (keys unicode16 form kind) part buffer) where
-    told : (x : TextAnswer) → answer ≡ x → text_reply x after ≡ answered 0 (form_bytes unicode16 form kind part) buffer
-    told x e = ap (λ (a : TextAnswer). text_reply a after) (sym e) ∙ says ∙ call_is
+  module _ (answer : Result ByteLen Refusal) (after : List ℕ) (says : text_reply answer after ≡ text_call unicode16 (keys unicode16 form kind) part buffer) where
+    told : (x : Result ByteLen Refusal) → answer ≡ x → text_reply x after ≡ answered 0 (form_bytes unicode16 form kind part) buffer
+    told x e = ap (λ (a : Result ByteLen Refusal). text_reply a after) (sym e) ∙ says ∙ call_is
 
-    pub call_length : (n : ByteLen) → answer ≡ Done n → n.0 ≡ length (form_bytes unicode16 form kind part)
-    call_length n e = ap (λ (r : Reply). r.length) (told (Done n) e)
+    pub call_length : (n : ByteLen) → answer ≡ Ok n → n.0 ≡ length (form_bytes unicode16 form kind part)
+    call_length n e = ap (λ (r : Reply). r.length) (told (Ok n) e)
 
-    pub call_buffer : (n : ByteLen) → answer ≡ Done n → after ≡ over (form_bytes unicode16 form kind part) buffer
-    call_buffer n e = ap (λ (r : Reply). r.buffer) (told (Done n) e)
+    pub call_buffer : (n : ByteLen) → answer ≡ Ok n → after ≡ over (form_bytes unicode16 form kind part) buffer
+    call_buffer n e = ap (λ (r : Reply). r.buffer) (told (Ok n) e)
 
-    pub call_answers : (why : Refusal) → answer ≡ Refused why → ⊥
-    call_answers why e = omega (arith, refusal_some why, ap (λ (r : Reply). r.code) (told (Refused why) e))
+    pub call_answers : (why : Refusal) → answer ≡ Err why → ⊥
+    call_answers why e = omega (arith, refusal_some why, ap (λ (r : Reply). r.code) (told (Err why) e))
 
 -- ── the forms of a part
 module _ (part : List ℕ) (h : check_text unicode16 part ≡ good (points_of part)) where

@@ -12,8 +12,6 @@ use Rattle.ji.specs.Utf8.{encode, bytes_of}
 use Rattle.ji.specs.Reply.{Checked, good, bad, pick_checked, over, verdict_of, check_within}
 use Rattle.ji.specs.declared.reply.Refusal.{Refusal}
 use Rattle.ji.specs.declared.reply.Refusal.TheVariants.{Parts}
-use Rattle.ji.specs.declared.unicode.Verdict.{Verdict}
-use Rattle.ji.specs.declared.unicode.Verdict.TheVariants.{Good, Refused}
 use Rattle.ji.specs.declared.lomaji.keys.Kind.{Kind}
 use Rattle.ji.specs.declared.lomaji.keys.Kind.TheVariants.{Detoned, Numeric, Telex}
 use Rattle.khiin_entries.specs.KeySequence.{split, keyings, check_parts, check_entry}
@@ -26,6 +24,7 @@ use Rattle.khiin_entries.proofs.key_sequence.Filling.{entry_passed, entry_parts}
 use Rattle.khiin_entries.proofs.key_sequence.Calling.{checked_good, laid_count, laid_keying, verdict_bad, check_is, text, fits_same, not_counted}
 use Rattle.khiin_entries.proofs.listing.Fitting.{fit_most, going_count}
 use Rattle.khiin_entries.proofs.listing.Putting.{put_length, following}
+use Rattle.std.specs.Prelude.{Result, Ok, Err}
 
 -- ── the lines of a kind
 pub lines_count : (kind : Kind) (at : ℕ) (ks : List (List ℕ)) → length (keying_lines kind at ks) ≡ length ks
@@ -149,12 +148,12 @@ pub reached_fits : {ls : List (List ℕ)} {from : ℕ} {before after : List ℕ}
 reached_fits r = shown_fits r.written
 
 -- ── an entry that is refused
-module _ (entry : List ℕ) (answer : Verdict) (says : answer ≡ verdict_of (check_within unicode16 1024 entry)) where
-  pub listing_refused : (why : Refusal) → answer ≡ Refused why → listing unicode16 entry ≡ refusal_line why ∷ []
+module _ (entry : List ℕ) (answer : Result (Unit {0}) Refusal) (says : answer ≡ verdict_of (check_within unicode16 1024 entry)) where
+  pub listing_refused : (why : Refusal) → answer ≡ Err why → listing unicode16 entry ≡ refusal_line why ∷ []
   unfolding listing refusal_line check_entry
   listing_refused why e = ap (λ (c : Checked). listing_of unicode16 (check_parts unicode16 c)) (verdict_bad (check_within unicode16 1024 entry) why (sym says ∙ e))
 
-  pub listing_parts : answer ≡ Good → 0 ≡ part_count entry → listing unicode16 entry ≡ refusal_line Parts ∷ []
+  pub listing_parts : answer ≡ Ok tt → 0 ≡ part_count entry → listing unicode16 entry ≡ refusal_line Parts ∷ []
   unfolding listing refusal_line check_entry
   listing_parts e z =
       ap (λ (c : Checked). listing_of unicode16 (check_parts unicode16 c)) (check_is entry answer says e)

@@ -1,16 +1,18 @@
 use mathlib.Core.Path.{sym, ap, ◌∙◌}
 use Rattle.ji.specs.Lomaji.Strip.{strip_reply}
-use Rattle.ji.specs.declared.lomaji.strip.Strip.{Strip}
 use Rattle.robinflint.proofs.rf_strip.Goals as goal
+use Rattle.std.specs.Prelude.{Result}
+use Rattle.ji.specs.declared.reply.Refusal.{Refusal}
+use Rattle.ji.specs.declared.lomaji.strip.StripResult.{StripResult}
 
-pub returns-in-Refused : goal.returns-in-Refused
-returns-in-Refused c =
+pub returns-in-Err : goal.returns-in-Err
+returns-in-Err c =
     let call = c.strip_tone_diacritic in
     let left = call.new.out in
-    c.refuse.ensures left ∙ ap (λ (a : Strip). strip_reply a left) (sym c.in-Refused.is) ∙ call.ensures
+    c.refuse.ensures left ∙ ap (λ (a : Result StripResult Refusal). strip_reply a left) (sym c.in-Err.is) ∙ call.ensures
 
-pub returns-in-Done : goal.returns-in-Done
-returns-in-Done c =
+pub returns-in-Ok : goal.returns-in-Ok
+returns-in-Ok c =
     let call = c.strip_tone_diacritic in
     let left = call.new.out in
-    rw c.number.ensures.0 (ap (λ (a : Strip). strip_reply a left) (sym c.in-Done.is) ∙ call.ensures)
+    rw c.number.ensures.0 (ap (λ (a : Result StripResult Refusal). strip_reply a left) (sym c.in-Ok.is) ∙ call.ensures)

@@ -18,13 +18,12 @@ use Rattle.ji.specs.declared.lomaji.keys.Form.{Form}
 use Rattle.ji.specs.declared.lomaji.keys.Form.TheVariants.{Plain, Oo}
 use Rattle.ji.specs.declared.lomaji.keys.Kind.{Kind}
 use Rattle.ji.specs.declared.lomaji.keys.Kind.TheVariants.{Detoned, Numeric, Telex}
-use Rattle.ji.specs.declared.lomaji.keys.ToneKey.{ToneKey}
-use Rattle.ji.specs.declared.lomaji.keys.ToneKey.TheVariants.{Nothing, Key}
 use Rattle.ji.proofs.Bools.{either, false_true}
 use Rattle.ji.proofs.text.Laws.{begins_split, replace_none, replace_same_length, points_growth}
 use Rattle.ji.proofs.utf8.Encoding.{encode_append}
 use Rattle.ji.proofs.unicode.Ascii.{ascii_take, ascii_drop, ascii_bytes, ascii_good}
 use Rattle.ji.proofs.unicode.Checked.{bytes_good, good_same}
+use Rattle.std.specs.Prelude.{Some, Option, None}
 
 -- ── the rules in three parts: o and O with U+0358, U+207F and U+1D3A, o and u with U+0324. The forms differ in the first alone
 pub respell_parts : (f : Form) (s : List ℕ) → respell (rules_of f) s ≡ respell (drop 4 plain_rules) (respell (take 2 (drop 2 plain_rules)) (respell (take 2 (rules_of f)) s))
@@ -69,9 +68,9 @@ respell_as_long f s = ap length (respell_parts f s) ∙ last_length (respell (ta
 pub respell_length : (f : Form) (s : List ℕ) → length (respell (rules_of f) s) ≤ 2 * length s
 respell_length f s = omega (arith, respell_as_long f s, nasals_length (respell (take 2 (rules_of f)) s), first_length f s)
 
-pub key_length : (k : ToneKey) → length (key_text k) ≤ 1
-key_length Nothing = omega arith
-key_length (Key k) = omega arith
+pub key_length : (k : Option ℕ) → length (key_text k) ≤ 1
+key_length None = omega arith
+key_length (Some k) = omega arith
 
 -- ── the keys of a text: the letters of the stripped text, and the key of its tone
 pub keys_are : (f : Form) (k : Kind) (s : List ℕ) (tone : Tone) (key : List ℕ) → tone ≡ (strip unicode16 s).tone → key ≡ take 1 (drop (tone_number tone) (tone_keys k)) → respell (rules_of f) (strip unicode16 s).rest ++ key ≡ keys unicode16 f k s

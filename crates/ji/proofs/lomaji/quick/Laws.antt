@@ -23,7 +23,7 @@ use Rattle.ji.specs.Lomaji.Quick.{IsLetter, Stripping, Further, Walked}
 use Rattle.ji.specs.declared.tone.Tone.{Tone}
 use Rattle.ji.specs.declared.tone.Tone.TheVariants.{None}
 use Rattle.ji.specs.declared.lomaji.quick.Progress.{Progress}
-use Rattle.ji.specs.declared.lomaji.quick.Outcome.TheVariants.{Whole}
+use Rattle.std.specs.Prelude.{Some}
 use Rattle.ji.proofs.Bools.{either, false_true}
 use Rattle.ji.proofs.Writing.{written_none, written_one, written_run, written_length}
 use Rattle.ji.proofs.Decomposition.{full_nil, full_append}
@@ -250,7 +250,7 @@ module _ (s before : List ℕ) where
           stripping = rw (full_append unicode16 r.text (x ∷ [])) (step before (full unicode16 r.text) r.stripping);
         }
 
-    pub walking_end : length s ≤ i → p.sorted ≡ true → (tone : Tone) → tone ≡ mark_tone p.mark → Walked s before out (Whole (record { 0 = p.n }) tone)
+    pub walking_end : length s ≤ i → p.sorted ≡ true → (tone : Tone) → tone ≡ mark_tone p.mark → Walked s before out (Some (record { 0 = p.n }, tone))
     walking_end h e tone is = (
       r.text,
       taken_end unicode16 s r.text i r.taken h,

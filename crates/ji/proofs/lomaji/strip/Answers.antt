@@ -24,7 +24,6 @@ use Rattle.ji.specs.declared.reply.Refusal.TheVariants.{Argument, TooLong, IllFo
 use Rattle.ji.specs.declared.tone.Tone.{Tone}
 use Rattle.ji.specs.declared.tone.Tone.TheVariants.{None, T1, T2, T3, T4, T5, T6, T7, T8, T9}
 use Rattle.ji.specs.declared.lomaji.strip.StripResult.{StripResult}
-use Rattle.ji.specs.declared.lomaji.strip.Strip.TheVariants.{Done, Refused}
 use Rattle.ji.proofs.Bools.{either, and_yes}
 use Rattle.ji.proofs.Replies.{refusal_some}
 use Rattle.ji.proofs.Closure.{Inside, nfd_inside_16}
@@ -36,6 +35,7 @@ use Rattle.ji.proofs.unicode.Checked.{check_passed}
 use Rattle.ji.proofs.utf8.Encoding.{encode_cons}
 use Rattle.ji.proofs.lomaji.strip.Commuting.{without_mark, without_other}
 use Rattle.ji.proofs.lomaji.keys.Bytes.{stripped_bytes}
+use Rattle.std.specs.Prelude.{Ok, Err}
 
 -- ── a stripped text is one of the table
 all_members : (t : Table) (s : List ℕ) → Inside t s → members t s ≡ true
@@ -121,7 +121,7 @@ pub record Stripping (text before after : List ℕ) (r : StripResult) : Type 0 w
 module _ (text before after : List ℕ) where
   module _ (r : StripResult) where
     done_placed : (s : List ℕ) → check_text unicode16 text ≡ good s → (b : Bool) → leb (length (encode (strip unicode16 s).rest)) (length before) ≡ b
-        → strip_reply (Done r) after ≡ pick_reply b (answered (tone_number (strip unicode16 s).tone) (encode (strip unicode16 s).rest) before) (refused NoRoom before)
+        → strip_reply (Ok r) after ≡ pick_reply b (answered (tone_number (strip unicode16 s).tone) (encode (strip unicode16 s).rest) before) (refused NoRoom before)
         → Stripping text before after r
     done_placed s g true l e =
         let out = encode (strip unicode16 s).rest in
@@ -138,19 +138,19 @@ module _ (text before after : List ℕ) where
         }
     done_placed s g false l e = let z : ◌≡◌ {A = ℕ} 0 7 = ap (λ (q : Reply). q.code) e in absurd (omega arith)
 
-    done_checked : (k : Checked) → check_text unicode16 text ≡ k → strip_reply (Done r) after ≡ strip_of unicode16 k before → Stripping text before after r
+    done_checked : (k : Checked) → check_text unicode16 text ≡ k → strip_reply (Ok r) after ≡ strip_of unicode16 k before → Stripping text before after r
     done_checked (good s) g e = done_placed s g (leb (length (encode (strip unicode16 s).rest)) (length before)) refl e
     done_checked (bad why) g e =
         let z : 0 ≡ refusal_number why = ap (λ (q : Reply). q.code) e in absurd (omega (arith, refusal_some why))
 
-    pub strip_done : strip_reply (Done r) after ≡ strip_call unicode16 text before → Stripping text before after r
+    pub strip_done : strip_reply (Ok r) after ≡ strip_call unicode16 text before → Stripping text before after r
     unfolding strip_call
     strip_done e = done_checked (check_text unicode16 text) refl e
 
   -- a text was refused, and not for want of room, where the buffer has five bytes for each two
   module _ (why : Refusal) (room : 5 * length text ≤ 2 * length before) where
     refused_placed : (s : List ℕ) → check_text unicode16 text ≡ good s → (b : Bool) → leb (length (encode (strip unicode16 s).rest)) (length before) ≡ b
-        → strip_reply (Refused why) after ≡ pick_reply b (answered (tone_number (strip unicode16 s).tone) (encode (strip unicode16 s).rest) before) (refused NoRoom before)
+        → strip_reply (Err why) after ≡ pick_reply b (answered (tone_number (strip unicode16 s).tone) (encode (strip unicode16 s).rest) before) (refused NoRoom before)
         → check_text unicode16 text ≡ bad why
     unfolding check_text
     refused_placed s g true l e = let z : refusal_number why ≡ 0 = ap (λ (q : Reply). q.code) e in absurd (omega (arith, refusal_some why))
@@ -158,10 +158,10 @@ module _ (text before after : List ℕ) where
         let p = check_passed unicode16 256 text s g in
         absurd (omega (arith, leb-false (length (encode (strip unicode16 s).rest)) (length before) l, stripped_bytes s, ap length p.written, room))
 
-    refused_checked : (k : Checked) → check_text unicode16 text ≡ k → strip_reply (Refused why) after ≡ strip_of unicode16 k before → check_text unicode16 text ≡ bad why
+    refused_checked : (k : Checked) → check_text unicode16 text ≡ k → strip_reply (Err why) after ≡ strip_of unicode16 k before → check_text unicode16 text ≡ bad why
     refused_checked (good s) g e = refused_placed s g (leb (length (encode (strip unicode16 s).rest)) (length before)) refl e
     refused_checked (bad other) g e = g ∙ ap bad (sym (same_refusal why other (ap (λ (q : Reply). q.code) e)))
 
-    pub strip_not : strip_reply (Refused why) after ≡ strip_call unicode16 text before → check_text unicode16 text ≡ bad why
+    pub strip_not : strip_reply (Err why) after ≡ strip_call unicode16 text before → check_text unicode16 text ≡ bad why
     unfolding strip_call
     strip_not e = refused_checked (check_text unicode16 text) refl e

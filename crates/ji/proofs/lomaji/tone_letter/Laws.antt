@@ -18,8 +18,9 @@ use Rattle.ji.specs.Lomaji.ToneLetter.{patterns, matches, pick_place, further, o
 use Rattle.ji.specs.Nfd.{nfd}
 use Rattle.ji.specs.Reply.{refused, good, bad, check_text}
 use Rattle.ji.specs.declared.reply.Refusal.{Refusal}
-use Rattle.ji.specs.declared.lomaji.tone_letter.Place.{Place}
 use Rattle.ji.proofs.Bools.{false_true, either, and_yes, and_no, and_true, and_right, or_no}
+use Rattle.std.specs.Prelude.{Option as Found, None}
+use Rattle.ji.specs.declared.unicode.CharLen.{CharLen}
 
 -- pattern k: its letters, and which of them is the tone letter
 abbrev pub pattern : ℕ → List String × ℕ
@@ -297,7 +298,7 @@ tone_letter_below s k e = search_below patterns (omega arith) s k e
 
 -- ── the calls
 -- what was found, as the definition has it
-pub letter_found : (s : List ℕ) {p x : Place} → p ≡ x → place_of p ≡ tone_letter s → place_of x ≡ tone_letter s
+pub letter_found : (s : List ℕ) {p x : Found CharLen} → p ≡ x → place_of p ≡ tone_letter s → place_of x ≡ tone_letter s
 letter_found s e h = ap place_of (sym e) ∙ h
 
 module _ (t : Table) (text : List ℕ) where

@@ -1,3 +1,4 @@
+use Rattle.std.proofs.lemmas.Result.{err_from_is_err_and}
 use mathlib.Core.Path.{ap, ◌∙◌}
 use mathlib.Core.List.{List}
 use Prim.Native.Nat.{ℕ}
@@ -13,16 +14,17 @@ use Rattle.ji.proofs.nfd.to_nfd.Goals as goal
 
 pub slice_bounds-place-end : goal.slice_bounds-place-end
 slice_bounds-place-end c =
-    let w = (nfd_told unicode16 _ _ _ c.in-Points.is c.read_nfd.ensures).2 in
+    let w = (nfd_told unicode16 _ _ _ c.in_ok-len.was c.read_nfd.ensures).2 in
     omega (arith, w.fits, written_length w)
 
-pub returns-in-Refused : goal.returns-in-Refused
-returns-in-Refused c =
-    let a = c.args in
-    text_refused unicode16 (nfd unicode16) a.text.now a.out.now _ (nfd_told unicode16 _ _ _ c.in-Refused.is c.read_nfd.ensures).0
+pub returns-in_err-len : goal.returns-in_err-len
+returns-in_err-len c =
+    let p = err_from_is_err_and c.from_residual.result c.from_residual.ensures.1 in
+    rw (p.1, p.2) (let a = c.args in
+    text_refused unicode16 (nfd unicode16) a.text.now a.out.now _ (nfd_told unicode16 _ _ _ c.in_err-len.was c.read_nfd.ensures).0)
 
-pub returns-in-Points : goal.returns-in-Points
-returns-in-Points c =
+pub returns : goal.returns
+returns c =
     let a = c.args in
-    let h = nfd_told unicode16 _ _ _ c.in-Points.is c.read_nfd.ensures in
+    let h = nfd_told unicode16 _ _ _ c.in_ok-len.was c.read_nfd.ensures in
     c.place.ensures ∙ ap (λ (s : List ℕ). placed 0 (encode s) a.out.now) (front h.2) ∙ text_good unicode16 (nfd unicode16) a.text.now a.out.now h.0 h.1

@@ -12,7 +12,6 @@ use Rattle.ji.specs.Utf8.{width_at, point_at, ReadOf, decode}
 use Rattle.ji.specs.Unicode.{accepted, spread}
 use Rattle.ji.specs.Reading.{spread_text, fault_in, Reading}
 use Rattle.ji.specs.declared.unicode.Spread.{Spread}
-use Rattle.ji.specs.declared.unicode.Decoded.TheVariants.{Refused}
 use Rattle.ji.proofs.Writing.{written_length}
 use Rattle.ji.proofs.utf8.Decoding.{width_most}
 use Rattle.ji.proofs.unicode.Reader.{spread_room, Read, read_start, read_end, read_ill, read_fault, read_room, read_more}
@@ -22,6 +21,7 @@ use Rattle.ji.proofs.utf8.Laws.{read_one}
 use Rattle.ji.proofs.unicode.Laws.{spread_itself}
 use Rattle.ji.proofs.unicode.Ascii.{ascii_member}
 use Rattle.ji.proofs.unicode.decode.Goals as goal
+use Rattle.std.specs.Prelude.{Err}
 
 -- a turn that reads a sequence of width w and code point p
 module _ (d : Bool) (s before out : List ℕ) (i n w p : ℕ) (r : Read unicode16 d s before out i n) (h : i < length s) (q : ReadOf (drop i s) w p) (some : w ≡ 0 → ⊥) where
@@ -38,7 +38,7 @@ module _ (d : Bool) (s before out : List ℕ) (i n w p : ℕ) (r : Read unicode1
   step = omega (arith, wide, width_most (drop i s))
 
   -- outside the table
-  returns_outside : false ≡ member unicode16 p → Reading unicode16 d s before out (Refused (fault_in (decode (drop i s))))
+  returns_outside : false ≡ member unicode16 p → Reading unicode16 d s before out (Err (fault_in (decode (drop i s))))
   returns_outside m = read_fault unicode16 d s before out i n r h positive (ap (member unicode16) (sym point) ∙ sym m)
 
   -- in the table

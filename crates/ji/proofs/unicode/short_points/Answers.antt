@@ -1,3 +1,4 @@
+use Rattle.std.proofs.lemmas.Result.{err_from_is_err_and}
 -- `unicode::short_points` meets its contract: what was read is placed whole.
 use mathlib.Core.Path.{ap, ◌∙◌}
 use mathlib.Core.Bool.{false}
@@ -18,15 +19,17 @@ decode-requires c = omega (arith, accepted_room false c.args.text.now, c.require
 
 pub slice_bounds-place_points-end : goal.slice_bounds-place_points-end
 slice_bounds-place_points-end c =
-    let w = (told unicode16 _ _ _ false c.in-Points.is c.decode.ensures).2 in
+    let w = (told unicode16 _ _ _ false c.in_ok-len.was c.decode.ensures).2 in
     omega (arith, w.fits, written_length w)
 
-pub returns-in-Refused : goal.returns-in-Refused
-returns-in-Refused c = reply c.args.text.now (told unicode16 _ _ _ false c.in-Refused.is c.decode.ensures).0 c.args.out.now
+pub returns-in_err-len : goal.returns-in_err-len
+returns-in_err-len c =
+    let p = err_from_is_err_and c.from_residual.result c.from_residual.ensures.1 in
+    rw (p.1, p.2) (reply c.args.text.now (told unicode16 _ _ _ false c.in_err-len.was c.decode.ensures).0 c.args.out.now)
 
-pub returns-in-Points : goal.returns-in-Points
-returns-in-Points c =
-    let r = told unicode16 _ _ _ false c.in-Points.is c.decode.ensures in
+pub returns : goal.returns
+returns c =
+    let r = told unicode16 _ _ _ false c.in_ok-len.was c.decode.ensures in
     c.place_points.ensures
     ∙ ap (λ (l : List ℕ). placed 0 l c.args.out.now) (front r.2 ∙ spread_plain unicode16 r.0)
     ∙ reply c.args.text.now r.1 c.args.out.now

@@ -1,3 +1,4 @@
+use Rattle.std.proofs.lemmas.Result.{err_from_is_err_and}
 use mathlib.Core.Path.{◌≡◌, sym, ap, ◌∙◌, subst}
 use mathlib.Core.List.{List, [], ◌∷◌, ◌++◌}
 use Prim.Native.Nat.{ℕ, ◌+◌, ◌-◌, ◌≤◌}
@@ -9,7 +10,6 @@ use Rattle.ji.specs.Utf8.{decode, encode}
 use Rattle.ji.specs.Written.{Written}
 use Rattle.ji.specs.Reply.{placed, good, check_points}
 use Rattle.ji.specs.declared.unicode.CharLen.{CharLen}
-use Rattle.ji.specs.declared.unicode.Decoded.TheVariants.{Points}
 use Rattle.ji.proofs.Writing.{written_length, written_take, stored_key}
 use Rattle.ji.proofs.Points.{points_done, points_refused}
 use Rattle.ji.proofs.unicode.Checked.{bytes_good, good_same, good_not_bad}
@@ -19,6 +19,7 @@ use Rattle.khiin.proofs.converter.Laws.{key_behind}
 use native.Mathlib.Omega.{arith}
 use Rattle.khiin.proofs.converter.compose_in.Goals as goal
 use Rattle.khiin.proofs.converter.compose_in.Goals.{After-code_points}
+use Rattle.std.specs.Prelude.{Ok}
 
 -- the stripped text was read
 module _ (c : After-code_points) where
@@ -47,7 +48,7 @@ module _ (c : After-code_points) where
     fewest : length h.rest ≤ n
     fewest = omega (arith, fewer h.rest, ap length h.written, size)
 
-    module _ (len : CharLen) (is : c.code_points.result ≡ Points len) where
+    module _ (len : CharLen) (is : c.code_points.result ≡ Ok len) where
       read : Written c.args.points.now after len.0 h.rest
       read =
           let g = points_done part c.args.points.now after room c.code_points.ensures len is in
@@ -69,17 +70,18 @@ slice_bounds-compose_step-end c = omega (arith, c.requires.1, length-set c.args.
 
 pub compose_step-requires : goal.compose_step-requires
 compose_step-requires c =
-    let w = read (goal.at.compose_step-requires c).After-code_points c.requires.4 c.in-Points.count c.in-Points.is in
-    (omega (arith, w.size, c.requires.4.few), omega (arith, w.size, fewest (goal.at.compose_step-requires c).After-code_points c.requires.4, written_length w, c.requires.3), raw_is (goal.at.compose_step-requires c).After-code_points c.requires.4 c.in-Points.count c.in-Points.is)
+    let w = read (goal.at.compose_step-requires c).After-code_points c.requires.4 c.in_ok-count.count c.in_ok-count.was in
+    (omega (arith, w.size, c.requires.4.few), omega (arith, w.size, fewest (goal.at.compose_step-requires c).After-code_points c.requires.4, written_length w, c.requires.3), raw_is (goal.at.compose_step-requires c).After-code_points c.requires.4 c.in_ok-count.count c.in_ok-count.was)
 
-pub returns-in-Refused : goal.returns-in-Refused
-returns-in-Refused c =
-    λ h.
-    let at_points = (goal.at.returns-in-Refused c).After-code_points in
-    absurd (good_not_bad (sym (good_rest at_points h) ∙ points_refused (part at_points) c.args.points.now c.code_points.new.out (room at_points) c.code_points.ensures c.in-Refused.why c.in-Refused.is))
+pub returns-in_err-count : goal.returns-in_err-count
+returns-in_err-count c =
+    let p = err_from_is_err_and c.from_residual.result c.from_residual.ensures.1 in
+    rw (p.1, p.2) (λ h.
+    let at_points = (goal.at.returns-in_err-count c).After-code_points in
+    absurd (good_not_bad (sym (good_rest at_points h) ∙ points_refused (part at_points) c.args.points.now c.code_points.new.out (room at_points) c.code_points.ensures c.in_err-count.field-0.0 c.in_err-count.was)))
 
-pub returns-in-Points : goal.returns-in-Points
-returns-in-Points c =
+pub returns : goal.returns
+returns c =
     λ h.
     c.compose_step.ensures
-    ∙ ap (λ (l : List ℕ). placed 0 (encode (composed_of unicode16 c.args.k c.args.key c.args.tone l)) c.args.out.now) (written_take (read (goal.at.returns-in-Points c).After-code_points h c.in-Points.count c.in-Points.is))
+    ∙ ap (λ (l : List ℕ). placed 0 (encode (composed_of unicode16 c.args.k c.args.key c.args.tone l)) c.args.out.now) (written_take (read (goal.at.returns c).After-code_points h c.in_ok-count.count c.in_ok-count.was))

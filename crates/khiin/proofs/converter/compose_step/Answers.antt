@@ -20,10 +20,12 @@ use Rattle.khiin.specs.Syllable.{compose}
 use Rattle.khiin.specs.Converter.{grown}
 use Rattle.khiin.specs.Telex.{composed_of}
 use Rattle.khiin.specs.declared.converter.ToneKeys.{ToneKeys}
-use Rattle.ji.specs.declared.reply.TextAnswer.{TextAnswer}
 use Rattle.khiin.proofs.syllable.plain.Laws.{front_ascii}
 use native.Mathlib.Omega.{arith}
 use Rattle.khiin.proofs.converter.compose_step.Goals as goal
+use Rattle.std.specs.Prelude.{Result}
+use Rattle.ji.specs.declared.unicode.ByteLen.{ByteLen}
+use Rattle.ji.specs.declared.reply.Refusal.{Refusal}
 
 module _ (p : List ℕ) (n key : ℕ) (h : n + 2 < length p) where
   abbrev stored : List ℕ
@@ -95,7 +97,7 @@ slice_bounds-compose_plain-end c =
 pub returns-then-size-gt0 : goal.returns-then-size-gt0
 returns-then-size-gt0 c =
     let here : List ℕ → Reply = λ l. placed 0 (encode l) c.args.out.now in
-    ap (λ (r : TextAnswer). text_reply r c.compose_plain-size.new.out) c.answer.ensures
+    ap (λ (r : Result ByteLen Refusal). text_reply r c.compose_plain-size.new.out) c.answer.ensures
     ∙ (c.compose_plain-size.ensures.1 _ c.requires.2).1 c.if-size-gt0.true
     ∙ ap (λ (b : List ℕ). here (compose unicode16 (take c.args.n c.args.points.now ++ (c.args.key ∷ [])) b c.typed-body.result.tone No))
     (body_same c.args.points.now c.args.n c.args.key c.requires.1 c.args.raw.now c.requires.2 c.typed-body.result.len c.typed-body.ensures.0 (c.compose_plain-size.ensures.0 c.if-size-gt0.true))
@@ -110,7 +112,7 @@ compose_points-requires c =
 pub returns : goal.returns
 returns c =
     let text = compose unicode16 (take c.args.n c.args.points.now ++ (c.args.key ∷ [])) (take c.typed-body.result.len (stored c.args.points.now c.args.n c.args.key c.requires.1)) c.typed-body.result.tone No in
-    ap (λ (r : TextAnswer). text_reply r c.compose_points.new.out) c.answer-2.ensures
+    ap (λ (r : Result ByteLen Refusal). text_reply r c.compose_points.new.out) c.answer-2.ensures
     ∙ c.compose_points.ensures _ c.requires.2
     ∙ ap (placed 0 (encode text)) ((c.compose_plain-size.ensures.1 _ c.requires.2).0 (omega (arith, c.if-size-gt0.false)))
     ∙ ap (λ (l : List ℕ). placed 0 (encode l) c.args.out.now)

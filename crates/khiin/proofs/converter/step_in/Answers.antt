@@ -12,8 +12,6 @@ use Rattle.ji.specs.Utf8.{encode, decode}
 use Rattle.ji.specs.Reply.{Reply, placed, good, check_points, text_call}
 use Rattle.ji.specs.Lomaji.Strip.{strip, strip_call, strip_reply, unmarked_tone}
 use Rattle.ji.specs.declared.tone.Tone.{Tone}
-use Rattle.ji.specs.declared.lomaji.strip.Strip.{Strip}
-use Rattle.ji.specs.declared.lomaji.strip.Strip.TheVariants.{Done}
 use Rattle.ji.specs.declared.lomaji.strip.StripResult.{StripResult}
 use Rattle.ji.proofs.Writing.{written_length, written_take}
 use Rattle.ji.proofs.Replies.{check_within_law, text_refused, text_good}
@@ -28,7 +26,9 @@ use Rattle.khiin.specs.declared.converter.Edit.TheVariants.{Compose}
 use Rattle.khiin.proofs.converter.Laws.{step_is, ascii_step}
 use native.Mathlib.Omega.{arith}
 use Rattle.khiin.proofs.converter.step_in.Goals as goal
-use Rattle.khiin.proofs.converter.step_in.Goals.{Joined-copy_ascii, then-copy_ascii, else-copy_ascii+in-Done}
+use Rattle.khiin.proofs.converter.step_in.Goals.{Joined-copy_ascii, then-copy_ascii, else-copy_ascii+in-Ok}
+use Rattle.std.specs.Prelude.{Result, Ok}
+use Rattle.ji.specs.declared.reply.Refusal.{Refusal}
 
 module _ (k : ToneKeys) (key : ℕ) (text lent out : List ℕ) (short : length text ≤ 256) where
   abbrev here : List ℕ → Reply
@@ -66,14 +66,14 @@ module _ (k : ToneKeys) (key : ℕ) (text lent out : List ℕ) (short : length t
         )
 
   -- ── any other text was stripped into `bytes`, where `before` stood
-  module _ (before bytes : List ℕ) (s : Strip) (ensured : strip_reply s bytes ≡ strip_call unicode16 (take (length text - 0) text) before) where
+  module _ (before bytes : List ℕ) (s : Result StripResult Refusal) (ensured : strip_reply s bytes ≡ strip_call unicode16 (take (length text - 0) text) before) where
     called : strip_reply s bytes ≡ strip_call unicode16 text before
     called = ensured ∙ ap (λ (l : List ℕ). strip_call unicode16 l before) (take_all (length text - 0) text (omega arith))
 
     -- and the branch is known
-    module _ (kept : length before ≡ length lent) (r : StripResult) (is : s ≡ Done r) where
+    module _ (kept : length before ≡ length lent) (r : StripResult) (is : s ≡ Ok r) where
       stripping : Stripping text before bytes r
-      stripping = strip_done text before bytes r (ap (λ (x : Strip). strip_reply x bytes) (sym is) ∙ called)
+      stripping = strip_done text before bytes r (ap (λ (x : Result StripResult Refusal). strip_reply x bytes) (sym is) ∙ called)
 
       abbrev u : List ℕ
       u = stripping.points
@@ -121,10 +121,10 @@ known c =
           rw (w.bytes-is, w.n-is, w.tone-is, w.edit-is)
           (ascii_known c.args.k c.args.key c.args.text.now c.args.bytes.now c.args.out.now c.requires.1 c.copy_ascii.new.bytes c.copy_ascii.auto.bytes ascii.0 ascii.1
           w.unmarked_tone-tone.result w.unmarked_tone-tone.ensures)
-      | else-copy_ascii+in-Done w ↦
+      | else-copy_ascii+in-Ok w ↦
           rw (w.bytes-is, w.n-is, w.tone-is, w.edit-is)
           (stripped_known c.args.k c.args.key c.args.text.now c.args.bytes.now c.args.out.now c.requires.1 c.copy_ascii.new.bytes w.strip_tone_diacritic.new.out
-          w.strip_tone_diacritic.result w.strip_tone_diacritic.ensures c.copy_ascii.auto.bytes w.in-Done.result w.in-Done.is
+          w.strip_tone_diacritic.result w.strip_tone_diacritic.ensures c.copy_ascii.auto.bytes w.in-Ok.result w.in-Ok.is
           w.edit_of-edit.result w.edit_of-edit.ensures)
     ]
 
@@ -136,12 +136,12 @@ slice_bounds-unmarked_tone-end c =
     let p = c.requires.2 in
     omega (arith, p, c.copy_ascii.auto.bytes)
 
-pub returns-in-Refused : goal.returns-in-Refused
-returns-in-Refused c =
+pub returns-in-Err : goal.returns-in-Err
+returns-in-Err c =
     let room : 5 * length c.args.text.now ≤ 2 * length c.copy_ascii.new.bytes = let p = c.requires.2 in omega (arith, p, c.copy_ascii.auto.bytes) in
-    text_refused unicode16 (step_of unicode16 c.args.k c.args.key) c.args.text.now c.args.out.now c.in-Refused.why
-    (strip_not c.args.text.now c.copy_ascii.new.bytes c.strip_tone_diacritic.new.out c.in-Refused.why room
-    (ap (λ (x : Strip). strip_reply x c.strip_tone_diacritic.new.out) (sym c.in-Refused.is)
+    text_refused unicode16 (step_of unicode16 c.args.k c.args.key) c.args.text.now c.args.out.now c.in-Err.why
+    (strip_not c.args.text.now c.copy_ascii.new.bytes c.strip_tone_diacritic.new.out c.in-Err.why room
+    (ap (λ (x : Result StripResult Refusal). strip_reply x c.strip_tone_diacritic.new.out) (sym c.in-Err.is)
     ∙ called c.args.k c.args.key c.args.text.now c.args.bytes.now c.args.out.now c.requires.1 c.copy_ascii.new.bytes c.strip_tone_diacritic.new.out c.strip_tone_diacritic.result c.strip_tone_diacritic.ensures))
 
 pub finish-requires : goal.finish-requires

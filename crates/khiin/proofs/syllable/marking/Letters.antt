@@ -13,13 +13,13 @@ use Rattle.ji.specs.Unicode.{unicode16}
 use Rattle.ji.specs.declared.tone.Tone.{Tone}
 use Rattle.khiin.specs.Syllable.{mark_of, encoded}
 use Rattle.khiin.specs.Compose.{mark_text, inserted, settled_from, Joined}
-use Rattle.khiin.specs.declared.syllable.marking.Mark.{Mark}
 use Rattle.khiin.proofs.syllable.compose.Laws.{inserted_is}
 use Rattle.khiin.proofs.syllable.marking.Settled.{listed_mark}
 use Rattle.khiin.proofs.syllable.marking.Marked.{marked_one, marked_none}
+use Rattle.std.specs.Prelude.{Option}
 
 -- the mark of a tone, as the answer has it
-pub mark_told : (tone : Tone) {m x : Mark} → m ≡ x → mark_text m ≡ mark_of tone → mark_text x ≡ mark_of tone
+pub mark_told : (tone : Tone) {m x : Option ℕ} → m ≡ x → mark_text m ≡ mark_of tone → mark_text x ≡ mark_of tone
 mark_told tone e h = ap mark_text (sym e) ∙ h
 
 -- the first n code points of s, with x behind the first k of them

@@ -15,7 +15,6 @@ use Rattle.ji.specs.Utf8.{bytes_of, encode}
 use Rattle.ji.specs.Reply.{Reply, placed, text_reply}
 use Rattle.ji.specs.Lomaji.ToneLetter.{tone_letter, byte_place_of}
 use Rattle.ji.specs.declared.tone.Tone.{Tone}
-use Rattle.ji.specs.declared.lomaji.tone_letter.BytePlace.{BytePlace}
 use Rattle.ji.specs.declared.lomaji.khin.Khin.TheVariants.{No}
 use Rattle.ji.specs.declared.reply.Refusal.TheVariants.{NoRoom}
 use Rattle.ji.specs.Lomaji.Keys.{respell}
@@ -31,6 +30,8 @@ use Rattle.khiin.proofs.syllable.compose.Once.{moved_none_lone, dot_low}
 use Rattle.khiin.proofs.syllable.marking.Settled.{listed_mark, encoded_settled}
 use Rattle.khiin.proofs.syllable.marking.Sizes.{no_change}
 use Rattle.khiin.proofs.syllable.marking.Marked.{marked_one, marked_none}
+use Rattle.std.specs.Prelude.{Option}
+use Rattle.ji.specs.declared.unicode.ByteLen.{ByteLen}
 
 -- ── a plain body is composed as it stands
 module _ (s : List ℕ) (p : Plain s) where
@@ -114,7 +115,7 @@ module _ (s : List ℕ) (h : all_ascii s ≡ true) where
         ∙ between (k + 1) (k + 1) mark)
 
 -- ── the place of the tone letter, as the answer has it
-pub byte_place_told : (s : List ℕ) {p x : BytePlace} → p ≡ x → byte_place_of p ≡ tone_letter s → tone_letter s ≡ byte_place_of x
+pub byte_place_told : (s : List ℕ) {p x : Option ByteLen} → p ≡ x → byte_place_of p ≡ tone_letter s → tone_letter s ≡ byte_place_of x
 byte_place_told s e h = sym h ∙ ap byte_place_of e
 
 -- ── a writer that found no room changed nothing, so that its number says all of the quick way

@@ -10,14 +10,14 @@ use Rattle.khiin_entries.proofs.key_sequence.put_form.Goals as goal
 
 pub overflow_add-result : goal.overflow_add-result
 overflow_add-result c =
-    omega (arith, call_length c.args.form c.args.kind c.args.part.now _ c.requires.0 (part_room c.args.forms.now c.args.at _ c.requires.1) c.keys.result _ c.keys.ensures _ c.in-Done.is)
+    omega (arith, call_length c.args.form c.args.kind c.args.part.now _ c.requires.0 (part_room c.args.forms.now c.args.at _ c.requires.1) c.keys.result _ c.keys.ensures _ c.in-Ok.is)
 
-pub returns-in-Done : goal.returns-in-Done
-returns-in-Done c = (
-  ap (λ (n : ℕ). c.args.at + n) (call_length c.args.form c.args.kind c.args.part.now _ c.requires.0 (part_room c.args.forms.now c.args.at _ c.requires.1) c.keys.result _ c.keys.ensures _ c.in-Done.is),
-  put_back c.args.forms.now (form_bytes unicode16 c.args.form c.args.kind c.args.part.now) _ c.args.at c.requires.1 (call_buffer c.args.form c.args.kind c.args.part.now _ c.requires.0 (part_room c.args.forms.now c.args.at _ c.requires.1) c.keys.result _ c.keys.ensures _ c.in-Done.is),
+pub returns-in-Ok : goal.returns-in-Ok
+returns-in-Ok c = (
+  ap (λ (n : ℕ). c.args.at + n) (call_length c.args.form c.args.kind c.args.part.now _ c.requires.0 (part_room c.args.forms.now c.args.at _ c.requires.1) c.keys.result _ c.keys.ensures _ c.in-Ok.is),
+  put_back c.args.forms.now (form_bytes unicode16 c.args.form c.args.kind c.args.part.now) _ c.args.at c.requires.1 (call_buffer c.args.form c.args.kind c.args.part.now _ c.requires.0 (part_room c.args.forms.now c.args.at _ c.requires.1) c.keys.result _ c.keys.ensures _ c.in-Ok.is),
 )
 
-pub returns-in-Refused : goal.returns-in-Refused
-returns-in-Refused c =
-    absurd (call_answers c.args.form c.args.kind c.args.part.now _ c.requires.0 (part_room c.args.forms.now c.args.at _ c.requires.1) c.keys.result _ c.keys.ensures _ c.in-Refused.is)
+pub returns-in-Err : goal.returns-in-Err
+returns-in-Err c =
+    absurd (call_answers c.args.form c.args.kind c.args.part.now _ c.requires.0 (part_room c.args.forms.now c.args.at _ c.requires.1) c.keys.result _ c.keys.ensures _ c.in-Err.is)

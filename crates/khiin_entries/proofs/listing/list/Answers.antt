@@ -11,21 +11,21 @@ use Rattle.khiin_entries.proofs.listing.list.Goals as goal
 
 pub count_parts-parts-requires : goal.count_parts-parts-requires
 count_parts-parts-requires c =
-    passed_short c.args.entry.now _ c.check.ensures c.in-Good.is
+    passed_short c.args.entry.now _ c.check.ensures c.in-Ok.is
 
 pub returns-then-parts-eq0 : goal.returns-then-parts-eq0
 returns-then-parts-eq0 c =
     let a = c.args in
-    told a.entry.now (refusal_line Parts ∷ []) a.from a.out.now _ _ _ (listing_parts a.entry.now _ c.check.ensures c.in-Good.is (sym c.if-parts-eq0.true ∙ c.count_parts-parts.ensures)) c.list_refusal-then-parts-eq0.ensures
+    told a.entry.now (refusal_line Parts ∷ []) a.from a.out.now _ _ _ (listing_parts a.entry.now _ c.check.ensures c.in-Ok.is (sym c.if-parts-eq0.true ∙ c.count_parts-parts.ensures)) c.list_refusal-then-parts-eq0.ensures
 
 pub list_entry-requires : goal.list_entry-requires
 list_entry-requires c =
-    entry_good c.args.entry.now _ c.check.ensures c.in-Good.is _ c.count_parts-parts.ensures c.if-parts-eq0.false
+    entry_good c.args.entry.now _ c.check.ensures c.in-Ok.is _ c.count_parts-parts.ensures c.if-parts-eq0.false
 
-pub returns-in-Refused : goal.returns-in-Refused
-returns-in-Refused c =
+pub returns-in-Err : goal.returns-in-Err
+returns-in-Err c =
     let a = c.args in
-    told a.entry.now (refusal_line _ ∷ []) a.from a.out.now _ _ _ (listing_refused a.entry.now _ c.check.ensures _ c.in-Refused.is) c.list_refusal.ensures
+    told a.entry.now (refusal_line _ ∷ []) a.from a.out.now _ _ _ (listing_refused a.entry.now _ c.check.ensures _ c.in-Err.is) c.list_refusal.ensures
 
 pub returns-else-parts-eq0 : goal.returns-else-parts-eq0
 returns-else-parts-eq0 c =

@@ -1,8 +1,8 @@
 use mathlib.Core.Path.{sym}
 use Rattle.khiin_records.proofs.from_composed.again.Goals as goal
 
-pub returns-in-Refused : goal.returns-in-Refused
-returns-in-Refused c = sym c.in-Refused.is
+pub returns-in-Err : goal.returns-in-Err
+returns-in-Err c = sym c.in-Err.is
 
-pub returns-in-Done : goal.returns-in-Done
-returns-in-Done c = sym c.in-Done.is
+pub returns-in-Ok : goal.returns-in-Ok
+returns-in-Ok c = sym c.in-Ok.is

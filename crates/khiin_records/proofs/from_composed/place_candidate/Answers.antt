@@ -1,11 +1,10 @@
+use Rattle.std.proofs.lemmas.Result.{err_from_is_err_and}
 use mathlib.Core.Path.{◌≡◌, refl, sym, ap, ◌∙◌}
 use mathlib.Core.List.{List, [], ◌∷◌, ◌++◌}
 use Prim.Native.Nat.{ℕ, ◌+◌}
 use lib.ListN.{length}
 use Rattle.ji.specs.Utf8.{encode}
 use Rattle.ji.specs.Reply.{text_reply, placed}
-use Rattle.ji.specs.declared.reply.TextAnswer.{TextAnswer}
-use Rattle.ji.specs.declared.reply.TextAnswer.TheVariants.{Done}
 use Rattle.ji.specs.declared.unicode.ByteLen.{ByteLen}
 use Rattle.ji.proofs.Readings.{front}
 use Rattle.khiin_records.specs.Syllable.{Syllable, raw, tone_digit, khin_key, candidate}
@@ -13,6 +12,8 @@ use Rattle.khiin_records.proofs.Records.{text_in, record_refused, record_done, w
 use native.Mathlib.Omega.{arith}
 use Rattle.khiin_records.proofs.from_composed.place_candidate.Goals as goal
 use Rattle.khiin_records.proofs.from_composed.place_candidate.Goals.{After-place}
+use Rattle.std.specs.Prelude.{Result, Ok}
+use Rattle.ji.specs.declared.reply.Refusal.{Refusal}
 
 -- the raw input was placed
 module _ (c : After-place) where
@@ -24,9 +25,9 @@ module _ (c : After-place) where
       c.place.ensures
       ∙ ap (λ (l : List ℕ). placed 0 (encode l) c.args.out.now) (front c.write_raw-n.ensures)
 
-  module _ (len : ByteLen) (is : c.place.result ≡ Done len) where
+  module _ (len : ByteLen) (is : c.place.result ≡ Ok len) where
     told : text_in len.0 c.place.new.out ≡ placed 0 (encode (raw made)) c.args.out.now
-    told = ap (λ (x : TextAnswer). text_reply x c.place.new.out) (sym is) ∙ placed_raw
+    told = ap (λ (x : Result ByteLen Refusal). text_reply x c.place.new.out) (sym is) ∙ placed_raw
 
     size : len.0 ≡ length (encode made.body) + length (tone_digit c.args.tone ++ khin_key c.args.khin)
     size =
@@ -35,19 +36,20 @@ module _ (c : After-place) where
 
 pub overflow_sub-result : goal.overflow_sub-result
 overflow_sub-result c =
-    omega (arith, c.key_count-keys.ensures, size (goal.at.overflow_sub-result c).After-place c.in-Done.len c.in-Done.is)
+    omega (arith, c.key_count-keys.ensures, size (goal.at.overflow_sub-result c).After-place c.in_ok-len.len c.in_ok-len.was)
 
-pub returns-in-Refused : goal.returns-in-Refused
-returns-in-Refused c =
-    let a = c.args in
-    record_refused a.count (made (goal.at.returns-in-Refused c).After-place) (encode (raw (made (goal.at.returns-in-Refused c).After-place))) a.out.now refl c.in-Refused.why c.place.new.out (ap (λ (x : TextAnswer). text_reply x c.place.new.out) (sym c.in-Refused.is) ∙ placed_raw (goal.at.returns-in-Refused c).After-place)
+pub returns-in_err-len : goal.returns-in_err-len
+returns-in_err-len c =
+    let p = err_from_is_err_and c.from_residual.result c.from_residual.ensures.1 in
+    rw (p.1, p.2) (let a = c.args in
+    record_refused a.count (made (goal.at.returns-in_err-len c).After-place) (encode (raw (made (goal.at.returns-in_err-len c).After-place))) a.out.now refl c.in_err-len.field-0.0 c.place.new.out (ap (λ (x : Result ByteLen Refusal). text_reply x c.place.new.out) (sym c.in_err-len.was) ∙ placed_raw (goal.at.returns-in_err-len c).After-place))
 
-pub returns-in-Done : goal.returns-in-Done
-returns-in-Done c =
+pub returns : goal.returns
+returns c =
     let a = c.args in
-    let k = size (goal.at.returns-in-Done c).After-place c.in-Done.len c.in-Done.is in
+    let k = size (goal.at.returns c).After-place c.in_ok-len.len c.in_ok-len.was in
     let keys = c.key_count-keys.ensures in
-    record_done a.count (made (goal.at.returns-in-Done c).After-place) (encode (raw (made (goal.at.returns-in-Done c).After-place))) a.out.now refl _ _ _ (told (goal.at.returns-in-Done c).After-place c.in-Done.len c.in-Done.is)
+    record_done a.count (made (goal.at.returns c).After-place) (encode (raw (made (goal.at.returns c).After-place))) a.out.now refl _ _ _ (told (goal.at.returns c).After-place c.in_ok-len.len c.in_ok-len.was)
     (record {
       len = refl;
       count_is = refl;

@@ -1,10 +1,12 @@
 use mathlib.Core.Path.{sym, ap, ◌∙◌}
 use Rattle.khiin_entries.specs.KeySequence.{keying_reply}
-use Rattle.khiin_entries.specs.declared.key_sequence.Keying.{Keying}
 use Rattle.robinflint.proofs.reply.keying.Goals as goal
+use Rattle.std.specs.Prelude.{Result}
+use Rattle.ji.specs.declared.reply.Refusal.{Refusal}
+use Rattle.khiin_entries.specs.declared.key_sequence.KeyingResult.{KeyingResult}
 
-pub returns-in-Refused : goal.returns-in-Refused
-returns-in-Refused c = λ buffer. c.refuse.ensures buffer ∙ ap (λ (a : Keying). keying_reply a buffer) (sym c.in-Refused.is)
+pub returns-in-Err : goal.returns-in-Err
+returns-in-Err c = λ buffer. c.refuse.ensures buffer ∙ ap (λ (a : Result KeyingResult Refusal). keying_reply a buffer) (sym c.in-Err.is)
 
-pub returns-in-Done : goal.returns-in-Done
-returns-in-Done c = λ buffer. ap (λ (a : Keying). keying_reply a buffer) (sym c.in-Done.is)
+pub returns-in-Ok : goal.returns-in-Ok
+returns-in-Ok c = λ buffer. ap (λ (a : Result KeyingResult Refusal). keying_reply a buffer) (sym c.in-Ok.is)

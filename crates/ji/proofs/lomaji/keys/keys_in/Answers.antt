@@ -1,3 +1,4 @@
+use Rattle.std.proofs.lemmas.Result.{err_from_is_err_and}
 -- `lomaji::keys::keys_in` meets its contract: the text is stripped, and its letters are written as they are or respelled, with the key of its tone.
 use mathlib.Core.Path.{◌≡◌, sym, ap, ◌∙◌}
 use mathlib.Core.Bool.{true}
@@ -13,7 +14,6 @@ use Rattle.ji.specs.Tone.{tone_number}
 use Rattle.ji.specs.Reply.{placed, text_call}
 use Rattle.ji.specs.Lomaji.Strip.{strip, strip_reply}
 use Rattle.ji.specs.Lomaji.Keys.{rules_of, respell, keys, key_text}
-use Rattle.ji.specs.declared.lomaji.strip.Strip.{Strip}
 use Rattle.ji.specs.declared.lomaji.strip.StripResult.{StripResult}
 use Rattle.ji.proofs.Writing.{written_length}
 use Rattle.ji.proofs.Readings.{front}
@@ -25,11 +25,13 @@ use Rattle.ji.proofs.lomaji.keys.Laws.{keys_are, ascii_keys}
 use native.Mathlib.Omega.{arith}
 use Rattle.ji.proofs.lomaji.keys.keys_in.Goals as goal
 use Rattle.ji.proofs.lomaji.keys.keys_in.Goals.{After-tone_key-key}
+use Rattle.std.specs.Prelude.{Result}
+use Rattle.ji.specs.declared.reply.Refusal.{Refusal}
 
 -- the text was stripped, and the key of its tone found
 module _ (c : After-tone_key-key) where
   abbrev result_of : StripResult
-  result_of = c.in-Done.result
+  result_of = c.in_ok-result.result
 
   abbrev after : List ℕ
   after = c.strip_tone_diacritic.new.out
@@ -40,7 +42,7 @@ module _ (c : After-tone_key-key) where
   stripping : Stripping c.args.text.now c.args.bytes.now after result_of
   stripping =
       strip_done c.args.text.now c.args.bytes.now after result_of
-      (ap (λ (x : Strip). strip_reply x after) (sym c.in-Done.is) ∙ c.strip_tone_diacritic.ensures)
+      (ap (λ (x : Result StripResult Refusal). strip_reply x after) (sym c.in_ok-result.was) ∙ c.strip_tone_diacritic.ensures)
 
   abbrev u : List ℕ
   u = stripping.points
@@ -108,16 +110,17 @@ slice_bounds-place-end c =
     let w = c.respell_bytes-m.ensures (rest (goal.at.slice_bounds-place-end c).After-tone_key-key) (inside (goal.at.slice_bounds-place-end c).After-tone_key-key) (part_is (goal.at.slice_bounds-place-end c).After-tone_key-key) in
     omega (arith, w.fits, written_length w)
 
-pub returns-in-Refused : goal.returns-in-Refused
-returns-in-Refused c =
-    let room : 5 * length c.args.text.now ≤ 2 * length c.args.bytes.now = let p = c.requires.1 in omega (arith, p) in
-    text_refused unicode16 (keys unicode16 c.args.form c.args.kind) c.args.text.now c.args.out.now c.in-Refused.why
-    (strip_not c.args.text.now c.args.bytes.now c.strip_tone_diacritic.new.out c.in-Refused.why room
-    (ap (λ (x : Strip). strip_reply x c.strip_tone_diacritic.new.out) (sym c.in-Refused.is) ∙ c.strip_tone_diacritic.ensures))
+pub returns-in_err-result : goal.returns-in_err-result
+returns-in_err-result c =
+    let p = err_from_is_err_and c.from_residual.result c.from_residual.ensures.1 in
+    rw (p.1, p.2) (let room : 5 * length c.args.text.now ≤ 2 * length c.args.bytes.now = let p = c.requires.1 in omega (arith, p) in
+    text_refused unicode16 (keys unicode16 c.args.form c.args.kind) c.args.text.now c.args.out.now c.in_err-result.field-0.0
+    (strip_not c.args.text.now c.args.bytes.now c.strip_tone_diacritic.new.out c.in_err-result.field-0.0 room
+    (ap (λ (x : Result StripResult Refusal). strip_reply x c.strip_tone_diacritic.new.out) (sym c.in_err-result.was) ∙ c.strip_tone_diacritic.ensures)))
 
-pub returns-else-is_ascii : goal.returns-else-is_ascii
-returns-else-is_ascii c =
-    let w = c.respell_bytes-m.ensures (rest (goal.at.returns-else-is_ascii c).After-tone_key-key) (inside (goal.at.returns-else-is_ascii c).After-tone_key-key) (part_is (goal.at.returns-else-is_ascii c).After-tone_key-key) in
+pub returns : goal.returns
+returns c =
+    let w = c.respell_bytes-m.ensures (rest (goal.at.returns c).After-tone_key-key) (inside (goal.at.returns c).After-tone_key-key) (part_is (goal.at.returns c).After-tone_key-key) in
     c.place.ensures
     ∙ ap (λ (l : List ℕ). placed 0 (encode l) c.args.out.now) (front w)
-    ∙ answered (goal.at.returns-else-is_ascii c).After-tone_key-key
+    ∙ answered (goal.at.returns c).After-tone_key-key

@@ -12,19 +12,18 @@ use Rattle.ji.specs.Lomaji.Strip.{without_marks, tone_or, unmarked_tone, strip_c
 use Rattle.ji.specs.Lomaji.Quick.{Walked}
 use Rattle.ji.specs.declared.tone.Tone.{Tone}
 use Rattle.ji.specs.declared.unicode.ByteLen.{ByteLen}
-use Rattle.ji.specs.declared.lomaji.quick.Outcome.{Outcome}
-use Rattle.ji.specs.declared.lomaji.quick.Outcome.TheVariants.{Whole}
+use Rattle.std.specs.Prelude.{Option, Some}
 use Rattle.ji.proofs.Writing.{written_take, written_length}
 use Rattle.ji.proofs.lomaji.strip.Laws.{strip_told}
 use native.Mathlib.Omega.{arith}
 use Rattle.ji.proofs.lomaji.strip.strip_by.Goals as goal
 
 -- what the walk says of the answer that it gave
-told : (s before after : List ℕ) (answer x : Outcome) → answer ≡ x → Walked s before after answer → Walked s before after x
+told : (s before after : List ℕ) (answer x : Option (ByteLen × Tone)) → answer ≡ x → Walked s before after answer → Walked s before after x
 told s before after answer x e h = subst (Walked s before after) e h
 
 -- the bytes that it wrote, and the tone, are the stripped text's
-module _ (s before after : List ℕ) (len : ByteLen) (last : Tone) (h : Walked s before after (Whole len last)) (short : length s ≤ 256) (out : List ℕ) where
+module _ (s before after : List ℕ) (len : ByteLen) (last : Tone) (h : Walked s before after (Some (len, last))) (short : length s ≤ 256) (out : List ℕ) where
   abbrev rest : List ℕ
   rest = take (len.0 - 0) after
 
@@ -35,10 +34,10 @@ module _ (s before after : List ℕ) (len : ByteLen) (last : Tone) (h : Walked s
   whole = strip_told unicode16 s out h.0 h.1 short last rest h.3 front
 
 pub slice_bounds-place_bytes-end : goal.slice_bounds-place_bytes-end
-slice_bounds-place_bytes-end c = let w = (told _ _ _ _ _ c.in-Whole.is c.walk.ensures).2 in omega (arith, w.fits, written_length w)
+slice_bounds-place_bytes-end c = let w = (told _ _ _ _ _ c.in-Some.is c.walk.ensures).2 in omega (arith, w.fits, written_length w)
 
-pub returns-in-Whole : goal.returns-in-Whole
-returns-in-Whole c =
+pub returns-in-Some : goal.returns-in-Some
+returns-in-Some c =
     let w = c.walk in
     c.place_bytes.ensures
-    ∙ whole c.args.text.now c.args.bytes.now w.new.out _ _ (told _ _ _ _ _ c.in-Whole.is w.ensures) c.requires.0 c.args.out.now
+    ∙ whole c.args.text.now c.args.bytes.now w.new.out _ _ (told _ _ _ _ _ c.in-Some.is w.ensures) c.requires.0 c.args.out.now

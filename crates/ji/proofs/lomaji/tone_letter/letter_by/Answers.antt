@@ -1,3 +1,4 @@
+use Rattle.std.proofs.lemmas.Result.{err_from_is_err_and}
 use mathlib.Core.Path.{ap, ◌∙◌}
 use mathlib.Core.Bool.{false}
 use mathlib.Core.List.{List}
@@ -21,21 +22,22 @@ module _ (c : After-read_points) where
 
 pub slice_bounds-letter_in-end : goal.slice_bounds-letter_in-end
 slice_bounds-letter_in-end c =
-    let w = (told unicode16 _ _ _ false c.in-Points.is (reading (goal.at.slice_bounds-letter_in-end c).After-read_points)).2 in
+    let w = (told unicode16 _ _ _ false c.in_ok-len.was (reading (goal.at.slice_bounds-letter_in-end c).After-read_points)).2 in
     omega (arith, w.fits, written_length w)
 
 pub letter_in-requires : goal.letter_in-requires
 letter_in-requires c =
-    let w = (told unicode16 _ _ _ false c.in-Points.is (reading (goal.at.letter_in-requires c).After-read_points)).2 in
+    let w = (told unicode16 _ _ _ false c.in_ok-len.was (reading (goal.at.letter_in-requires c).After-read_points)).2 in
     let few = c.requires.2 in
     rw (front w, w.size) (omega (arith, w.fits, few))
 
-pub returns-in-Refused : goal.returns-in-Refused
-returns-in-Refused c =
-    letter_refused unicode16 c.args.text.now _ (check_within_law unicode16 c.args.text.now c.requires.0 ∙ (told unicode16 _ _ _ false c.in-Refused.is (reading (goal.at.returns-in-Refused c).After-read_points)).0)
+pub returns-in_err-len : goal.returns-in_err-len
+returns-in_err-len c =
+    let p = err_from_is_err_and c.from_residual.result c.from_residual.ensures.1 in
+    rw (p.1, p.2) (letter_refused unicode16 c.args.text.now _ (check_within_law unicode16 c.args.text.now c.requires.0 ∙ (told unicode16 _ _ _ false c.in_err-len.was (reading (goal.at.returns-in_err-len c).After-read_points)).0))
 
-pub returns-in-Points : goal.returns-in-Points
+pub returns : goal.returns
 unfolding spread
-returns-in-Points c =
-    let h = told unicode16 _ _ _ false c.in-Points.is (reading (goal.at.returns-in-Points c).After-read_points) in
+returns c =
+    let h = told unicode16 _ _ _ false c.in_ok-len.was (reading (goal.at.returns c).After-read_points) in
     c.letter_in.ensures ∙ ap (λ (s : List ℕ). letter_at s (tone_letter s)) (front h.2) ∙ letter_good unicode16 c.args.text.now h.0 (check_within_law unicode16 c.args.text.now c.requires.0 ∙ h.1)

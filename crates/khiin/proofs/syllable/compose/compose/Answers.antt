@@ -1,3 +1,4 @@
+use Rattle.std.proofs.lemmas.Result.{err_from_is_err_and}
 use mathlib.Core.Path.{◌≡◌, sym, ap, ◌∙◌, refl}
 use mathlib.Core.List.{List}
 use Prim.Native.Nat.{ℕ}
@@ -5,7 +6,6 @@ use Rattle.ji.specs.Unicode.{unicode16}
 use Rattle.ji.specs.Utf8.{encode}
 use Rattle.ji.specs.Reply.{Reply, Checked, good, bad, check_within, check_text, verdict_of}
 use Rattle.ji.specs.declared.reply.Refusal.{Refusal}
-use Rattle.ji.specs.declared.unicode.Verdict.{Verdict}
 use Rattle.ji.specs.declared.tone.Tone.{Tone}
 use Rattle.ji.specs.declared.lomaji.khin.Khin.{Khin}
 use Rattle.ji.proofs.Replies.{check_long}
@@ -14,13 +14,14 @@ use Rattle.khiin.specs.Syllable.{compose_of, compose_call}
 use native.Mathlib.Omega.{arith}
 use Rattle.khiin.proofs.syllable.compose.compose.Goals as goal
 use Rattle.khiin.proofs.syllable.compose.compose.Goals.{After-check}
+use Rattle.std.specs.Prelude.{Ok, Err}
 
 -- what a verdict says
-found_good : (k : Checked) → Verdict.Good ≡ verdict_of k → (s : List ℕ) × (k ≡ good s)
+found_good : (k : Checked) → Ok tt ≡ verdict_of k → (s : List ℕ) × (k ≡ good s)
 found_good (good s) e = (s, refl)
 found_good (bad why) e = absurd (let z : ◌≡◌ {A = ℕ} 0 1 = cc in omega arith)
 
-found_bad : (k : Checked) {why : Refusal} → Verdict.Refused why ≡ verdict_of k → k ≡ bad why
+found_bad : (k : Checked) {why : Refusal} → Err why ≡ verdict_of k → k ≡ bad why
 found_bad (good s) e = absurd (let z : ◌≡◌ {A = ℕ} 0 1 = cc in omega arith)
 found_bad (bad w) e = cc
 
@@ -34,19 +35,20 @@ called raw body tone khin buffer s e h =
 pub returns-then-body-gt256 : goal.returns-then-body-gt256
 returns-then-body-gt256 c =
     let a = c.args in
-    let g = found_good (check_within unicode16 256 a.raw.now) (sym c.in-Good.is ∙ c.check.ensures) in
+    let g = found_good (check_within unicode16 256 a.raw.now) (sym c.in_ok-check.was ∙ c.check.ensures) in
     called a.raw.now a.body.now a.tone a.khin a.out.now g.0 g.1
     (λ raw_input e. sym (ap (λ (x : Checked). compose_of unicode16 a.tone a.khin (good raw_input) x a.out.now) (check_long unicode16 a.body.now c.if-body-gt256.true)))
 
-pub returns-in-Refused : goal.returns-in-Refused
+pub returns-in_err-check : goal.returns-in_err-check
 unfolding compose_call check_text
-returns-in-Refused c =
-    let a = c.args in
-    let g = found_bad (check_within unicode16 256 a.raw.now) (sym c.in-Refused.is ∙ c.check.ensures) in
-    sym (ap (λ (x : Checked). compose_of unicode16 a.tone a.khin x (check_text unicode16 a.body.now) a.out.now) g)
+returns-in_err-check c =
+    let p = err_from_is_err_and c.from_residual.result c.from_residual.ensures.1 in
+    rw (p.1, p.2) (let a = c.args in
+    let g = found_bad (check_within unicode16 256 a.raw.now) (sym c.in_err-check.was ∙ c.check.ensures) in
+    sym (ap (λ (x : Checked). compose_of unicode16 a.tone a.khin x (check_text unicode16 a.body.now) a.out.now) g))
 
-pub returns-else-body-gt256 : goal.returns-else-body-gt256
-returns-else-body-gt256 c =
+pub returns : goal.returns
+returns c =
     let a = c.args in
-    let g = found_good (check_within unicode16 256 a.raw.now) (sym c.in-Good.is ∙ c.check.ensures) in
+    let g = found_good (check_within unicode16 256 a.raw.now) (sym c.in_ok-check.was ∙ c.check.ensures) in
     called a.raw.now a.body.now a.tone a.khin a.out.now g.0 g.1 c.compose_any.ensures

@@ -1,3 +1,4 @@
+use Rattle.std.proofs.lemmas.Result.{err_from_is_err_and}
 use mathlib.Core.Path.{sym, ap, ◌∙◌}
 use mathlib.Core.List.{List}
 use Prim.Native.Nat.{ℕ}
@@ -9,27 +10,30 @@ use Rattle.ji.proofs.Replies.{check_within_law}
 use Rattle.ji.proofs.Points.{points_refused}
 use Rattle.khiin.specs.Syllable.{compose, compose_of}
 use Rattle.khiin.proofs.syllable.compose.Reading.{points_fewer, read_whole}
-use Rattle.ji.specs.declared.reply.TextAnswer.{TextAnswer}
 use native.Mathlib.Omega.{arith}
 use Rattle.khiin.proofs.syllable.compose.compose_body.Goals as goal
 use Rattle.khiin.proofs.syllable.compose.compose_body.Goals.{After-code_points}
+use Rattle.std.specs.Prelude.{Result}
+use Rattle.ji.specs.declared.unicode.ByteLen.{ByteLen}
+use Rattle.ji.specs.declared.reply.Refusal.{Refusal}
 
 pub compose_points-requires : goal.compose_points-requires
 compose_points-requires c =
-    let h = read_whole c.args.body.now c.args.points.now c.code_points.new.out c.requires.0 c.requires.1 c.code_points.ensures c.in-Points.len c.in-Points.is in
+    let h = read_whole c.args.body.now c.args.points.now c.code_points.new.out c.requires.0 c.requires.1 c.code_points.ensures c.in_ok-len.len c.in_ok-len.was in
     (omega (arith, points_fewer c.args.body.now h.0 h.1, h.2.size, c.requires.0), omega (arith, points_fewer c.args.body.now h.0 h.1, h.2.size, written_length h.2, c.requires.2))
 
-pub returns-in-Refused : goal.returns-in-Refused
-returns-in-Refused c =
-    λ raw_input e.
-    let h = points_refused c.args.body.now c.args.points.now c.code_points.new.out c.requires.1 c.code_points.ensures c.in-Refused.why c.in-Refused.is in
-    ap (λ (k : Checked). compose_of unicode16 c.args.tone c.args.khin (good raw_input) k c.args.out.now) (sym (check_within_law unicode16 c.args.body.now c.requires.0 ∙ h))
+pub returns-in_err-len : goal.returns-in_err-len
+returns-in_err-len c =
+    let p = err_from_is_err_and c.from_residual.result c.from_residual.ensures.1 in
+    rw (p.1, p.2) (λ raw_input e.
+    let h = points_refused c.args.body.now c.args.points.now c.code_points.new.out c.requires.1 c.code_points.ensures c.in_err-len.field-0.0 c.in_err-len.was in
+    ap (λ (k : Checked). compose_of unicode16 c.args.tone c.args.khin (good raw_input) k c.args.out.now) (sym (check_within_law unicode16 c.args.body.now c.requires.0 ∙ h)))
 
-pub returns-in-Points : goal.returns-in-Points
-returns-in-Points c =
+pub returns : goal.returns
+returns c =
     λ raw_input e.
-    let h = read_whole c.args.body.now c.args.points.now c.code_points.new.out c.requires.0 c.requires.1 c.code_points.ensures c.in-Points.len c.in-Points.is in
-    ap (λ (x : TextAnswer). text_reply x c.compose_points.new.out) c.answer.ensures
+    let h = read_whole c.args.body.now c.args.points.now c.code_points.new.out c.requires.0 c.requires.1 c.code_points.ensures c.in_ok-len.len c.in_ok-len.was in
+    ap (λ (x : Result ByteLen Refusal). text_reply x c.compose_points.new.out) c.answer.ensures
     ∙ c.compose_points.ensures raw_input e
     ∙ ap (λ (s : List ℕ). placed 0 (encode (compose unicode16 raw_input s c.args.tone c.args.khin)) c.args.out.now) (written_take h.2)
     ∙ ap (λ (k : Checked). compose_of unicode16 c.args.tone c.args.khin (good raw_input) k c.args.out.now) (sym h.1)

@@ -11,12 +11,14 @@ use Rattle.ji.specs.Utf8.{encode}
 use Rattle.ji.specs.Normalising.{exchanged_call}
 use Rattle.ji.specs.Reply.{pick_reply, refused, placed, text_reply}
 use Rattle.ji.specs.declared.reply.Refusal.TheVariants.{TooLong}
-use Rattle.ji.specs.declared.reply.TextAnswer.{TextAnswer}
 use Rattle.khiin.specs.Syllable.{encoded}
 use Rattle.khiin.proofs.syllable.marking.Sizes.{no_room, written, no_longer}
 use Rattle.khiin.proofs.syllable.marking.place_encoded.Goals as goal
+use Rattle.std.specs.Prelude.{Result}
+use Rattle.ji.specs.declared.unicode.ByteLen.{ByteLen}
+use Rattle.ji.specs.declared.reply.Refusal.{Refusal}
 
-short_text : (s before after : List ℕ) (a : TextAnswer) → length s ≤ 803 → text_reply a after ≡ exchanged_call unicode16 0x0324 0x030D s before
+short_text : (s before after : List ℕ) (a : Result ByteLen Refusal) → length s ≤ 803 → text_reply a after ≡ exchanged_call unicode16 0x0324 0x030D s before
     → text_reply a after ≡ placed 0 (encode (encoded unicode16 s)) before
 unfolding encoded
 short_text s before after a few e =
@@ -26,16 +28,16 @@ pub overflow_add-result : goal.overflow_add-result
 overflow_add-result c =
     let a = c.args in
     let e = short_text a.s.now a.out.now c.place_exchanged.new.out c.place_exchanged.result c.requires c.place_exchanged.ensures in
-    omega (arith, no_longer (encode (encoded unicode16 a.s.now)) a.out.now c.place_exchanged.new.out _ e _ c.in-Done.is, c.well_formed.1.0.1)
+    omega (arith, no_longer (encode (encoded unicode16 a.s.now)) a.out.now c.place_exchanged.new.out _ e _ c.in-Ok.is, c.well_formed.1.0.1)
 
-pub returns-in-Refused : goal.returns-in-Refused
-returns-in-Refused c =
+pub returns-in-Err : goal.returns-in-Err
+returns-in-Err c =
     let a = c.args in
     let e = short_text a.s.now a.out.now c.place_exchanged.new.out c.place_exchanged.result c.requires c.place_exchanged.ensures in
-    no_room (encode (encoded unicode16 a.s.now)) a.out.now c.place_exchanged.new.out _ e _ c.in-Refused.is
+    no_room (encode (encoded unicode16 a.s.now)) a.out.now c.place_exchanged.new.out _ e _ c.in-Err.is
 
-pub returns-in-Done : goal.returns-in-Done
-returns-in-Done c =
+pub returns-in-Ok : goal.returns-in-Ok
+returns-in-Ok c =
     let a = c.args in
     let e = short_text a.s.now a.out.now c.place_exchanged.new.out c.place_exchanged.result c.requires c.place_exchanged.ensures in
-    written (encode (encoded unicode16 a.s.now)) a.out.now c.place_exchanged.new.out _ e _ c.in-Done.is
+    written (encode (encoded unicode16 a.s.now)) a.out.now c.place_exchanged.new.out _ e _ c.in-Ok.is

@@ -13,30 +13,30 @@ use Rattle.khiin.proofs.syllable.plain.place_plain.Goals as goal
 
 pub place_joined-requires : goal.place_joined-requires
 place_joined-requires c =
-    (tone_letter_below c.args.s.now _ (byte_place_told c.args.s.now c.in-At.is c.ascii_tone_position.ensures), c.requires)
+    (tone_letter_below c.args.s.now _ (byte_place_told c.args.s.now c.in-Some-ascii_tone_position.is c.ascii_tone_position.ensures), c.requires)
 
-pub returns-in-Nothing : goal.returns-in-Nothing
-returns-in-Nothing c =
+pub returns-in-None : goal.returns-in-None
+returns-in-None c =
     λ raw_input e.
     let s = c.args.s.now in
     quick _ (encode (composed_with unicode16 raw_input s (mark_of c.args.tone))) c.args.out.now _
     (c.place_bytes.ensures
-    ∙ ap (λ (u : List ℕ). placed 0 u c.args.out.now) (sym (ascii_encoded s c.requires) ∙ ap (λ (mark : List ℕ). encode (composed_with unicode16 raw_input s mark)) (mark_told c.args.tone c.in-Nothing.is c.mark_of.ensures)))
+    ∙ ap (λ (u : List ℕ). placed 0 u c.args.out.now) (sym (ascii_encoded s c.requires) ∙ ap (λ (mark : List ℕ). encode (composed_with unicode16 raw_input s mark)) (mark_told c.args.tone c.in-None.is c.mark_of.ensures)))
 
-pub returns-in-Nowhere : goal.returns-in-Nowhere
-returns-in-Nowhere c =
+pub returns-in-None-ascii_tone_position : goal.returns-in-None-ascii_tone_position
+returns-in-None-ascii_tone_position c =
     λ raw_input e.
     let s = c.args.s.now in
     quick _ (encode (composed_with unicode16 raw_input s (mark_of c.args.tone))) c.args.out.now _
-    (c.place_bytes-in-Nowhere.ensures
+    (c.place_bytes-in-None-ascii_tone_position.ensures
     ∙ ap (λ (u : List ℕ). placed 0 u c.args.out.now)
-    (e ∙ ap encode (ap (composed_at unicode16 raw_input s (c.in-Point.mark ∷ [])) (sym (byte_place_told s c.in-Nowhere.is c.ascii_tone_position.ensures)) ∙ ap (composed_with unicode16 raw_input s) (mark_told c.args.tone c.in-Point.is c.mark_of.ensures))))
+    (e ∙ ap encode (ap (composed_at unicode16 raw_input s (c.in-Some.mark ∷ [])) (sym (byte_place_told s c.in-None-ascii_tone_position.is c.ascii_tone_position.ensures)) ∙ ap (composed_with unicode16 raw_input s) (mark_told c.args.tone c.in-Some.is c.mark_of.ensures))))
 
-pub returns-in-At : goal.returns-in-At
-returns-in-At c =
+pub returns-in-Some-ascii_tone_position : goal.returns-in-Some-ascii_tone_position
+returns-in-Some-ascii_tone_position c =
     λ raw_input e.
     let s = c.args.s.now in
     subst (QuickAs _ c.args.out.now _)
     (ap (λ (u : List ℕ). placed 0 (encode u) c.args.out.now)
-    (ap (composed_at unicode16 raw_input s (c.in-Point.mark ∷ [])) (sym (byte_place_told s c.in-At.is c.ascii_tone_position.ensures)) ∙ ap (composed_with unicode16 raw_input s) (mark_told c.args.tone c.in-Point.is c.mark_of.ensures)))
+    (ap (composed_at unicode16 raw_input s (c.in-Some.mark ∷ [])) (sym (byte_place_told s c.in-Some-ascii_tone_position.is c.ascii_tone_position.ensures)) ∙ ap (composed_with unicode16 raw_input s) (mark_told c.args.tone c.in-Some.is c.mark_of.ensures)))
     c.place_joined.ensures
