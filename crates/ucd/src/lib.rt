@@ -43,14 +43,14 @@ pub fn is_member(c: u32) -> bool
 }
 
 // What a code point decomposes to: itself, where it has no mapping.
-#[derive(Clone, Copy)]
+#[derive(Clone, Copy, PartialEq, Eq)]
 pub enum Mapping {
     Itself,
     One(u16),
     Two(u16, u16),
 }
 
-// The decomposition of c: its mapping, if it has one.
+// The decomposition of c: its mapping, if it has one. The rows hold numbers, since the table is a constant of numbers: here they are taken apart.
 pub fn decomposition(c: u16) -> Mapping
     ensures text { text_of c result ≡ decomposition unicode16 c }
     ensures mapping { said result ≡ mapping unicode16 c }
@@ -84,23 +84,13 @@ pub fn combining_class(c: u16) -> u8
 pub fn composite(a: u16, b: u16) -> Option<u16>
     ensures { point_of result ≡ composite unicode16 a b }
 {
-    if b < 0x0300 {
-        return None;
-    }
-    if 0x0338 < b {
+    if b < 0x0300 || 0x0338 < b {
         return None;
     }
     let p = table::candidate(a, b);
-    match decomposition(p) {
-        Mapping::Itself => None,
-        Mapping::One(_) => None,
-        Mapping::Two(first, second) => {
-            if first == a {
-                if second == b {
-                    return Some(p);
-                }
-            }
-            None
-        }
+    if decomposition(p) == Mapping::Two(a, b) {
+        Some(p)
+    } else {
+        None
     }
 }
