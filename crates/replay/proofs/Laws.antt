@@ -33,7 +33,7 @@ untouched_length : (n : ℕ) → length (untouched n) ≡ n
 unfolding untouched
 untouched_length n = length-replicate n 0xA5
 
-untouched_at : (n i : ℕ) → i < n → get_or (untouched n) i 0 ≡ 0xA5
+pub untouched_at : (n i : ℕ) → i < n → get_or (untouched n) i 0 ≡ 0xA5
 unfolding untouched
 untouched_at n i h = get_or-replicate n i 0xA5 0 h
 

@@ -1,4 +1,5 @@
-// The calls by their numbers.
+// The calls by their numbers, as the records of a list name them. They stay numbers: an enum would be matched twice, once from the number and once for
+// the call, and the definition of a record speaks of its number.
 ghost use Rattle.std.specs.Prelude.{◌≡◌, ◌≤◌, length};
 ghost use Rattle.robinflint.specs.Reply.{reply_of};
 ghost use Rattle.replay.specs.Calls.{answer_of, seven_of, syllable_answer};

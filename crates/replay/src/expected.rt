@@ -17,14 +17,7 @@ pub(crate) fn fresh_buffer() -> [u8; 3136]
 pub(crate) fn is_untouched(bytes: &[u8]) -> bool
     ensures { Says result (bytes.now ≡ untouched (length bytes.now)) }
 {
-    let mut i = 0;
-    while i < bytes.len() {
-        if bytes[i] != 0xA5 {
-            return false;
-        }
-        i += 1;
-    }
-    true
+    bytes.iter().all(|byte| *byte == 0xA5)
 }
 
 // How many bytes the call is to write.

@@ -38,12 +38,12 @@ enum Outcome {
     End,
 }
 
-// By the call's number, how many records there were, and how many of them differed; and 1 where the list did not come to its end.
+// By the call's number, how many records there were, how many of them differed, and whether the list did not come to its end.
 #[derive(Clone, Copy)]
 struct Tally {
     records: [u64; 13],
     different: [u64; 13],
-    malformed: u64,
+    malformed: bool,
 }
 
 // Fills the buffer, and says whether the input had that much.
@@ -91,41 +91,37 @@ fn replay_one<R: Read>(reader: &mut R) -> io::Result<Outcome> {
     replay_body(reader, h, &mut body[..size])
 }
 
-// One more, as far as a number goes.
-fn one_more(n: u64) -> u64 {
-    if n < u64::MAX { n + 1 } else { n }
-}
-
-// Counts a record, and a difference.
-fn counted(mut t: Tally, call: u8, difference: bool) -> Tally {
-    let i = call as usize;
-    if i < 13 {
-        t.records[i] = one_more(t.records[i]);
-        if difference {
-            t.different[i] = one_more(t.different[i]);
+impl Tally {
+    // Counts a record, and a difference.
+    fn count(&mut self, call: u8, difference: bool) {
+        let i = usize::from(call);
+        if i < 13 {
+            self.records[i] = self.records[i].saturating_add(1);
+            if difference {
+                self.different[i] = self.different[i].saturating_add(1);
+            }
+        } else {
+            self.malformed = true;
         }
-    } else {
-        t.malformed = 1;
     }
-    t
 }
 
 fn replay_all<R: Read>(reader: &mut R) -> io::Result<Tally> {
     let mut t = Tally {
         records: [0; 13],
         different: [0; 13],
-        malformed: 0,
+        malformed: false,
     };
     // A proved loop has to end, and nothing says that the input does. So the loop counts its turns, to a number that no run comes to.
     for _ in 0..u64::MAX {
         match replay_one(reader)? {
-            Outcome::Same(call) => t = counted(t, call, false),
-            Outcome::Different(call) => t = counted(t, call, true),
+            Outcome::Same(call) => t.count(call, false),
+            Outcome::Different(call) => t.count(call, true),
             Outcome::Malformed => break,
             Outcome::End => return Ok(t),
         }
     }
-    t.malformed = 1;
+    t.malformed = true;
     Ok(t)
 }
 
@@ -136,6 +132,6 @@ pub(crate) fn run(rt: &(impl Input + Print)) -> io::Result<()> {
         let different = t.different[i];
         println!(rt; "{name} {all} {different}")?;
     }
-    let malformed = t.malformed;
+    let malformed = u64::from(t.malformed);
     println!(rt; "malformed {malformed}")
 }

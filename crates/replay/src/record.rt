@@ -1,6 +1,6 @@
 // A record of a list of answers: a header of 36 bytes, then the first text, the second text, and the bytes that the call is to write.
-ghost use Rattle.std.specs.Prelude.{◌≡◌, ◌+◌, ◌*◌};
-ghost use Rattle.replay.specs.Record.{eight, header_of, replayable};
+ghost use Rattle.std.specs.Prelude.{◌≡◌, ◌+◌, ◌*◌, get_or};
+ghost use Rattle.replay.specs.Record.{eight_at, header_of, replayable};
 
 // The most bytes of a text, of a lent buffer, and of an output.
 pub const MOST: usize = 3072;
@@ -28,18 +28,17 @@ pub struct Header {
 }
 
 // The number that two bytes are, the low one first.
-fn pair(low: u8, high: u8) -> usize
-    ensures { result ≡ low + 256 * high }
+fn pair(bytes: [u8; 2]) -> usize
+    ensures { result ≡ get_or bytes 0 0 + 256 * get_or bytes 1 0 }
 {
-    low as usize + 256 * (high as usize)
+    usize::from(u16::from_le_bytes(bytes))
 }
 
 // The number that eight bytes are, the lowest one first.
-fn word(a: u8, b: u8, c: u8, d: u8, e: u8, f: u8, g: u8, h: u8) -> u64
-    ensures { result ≡ eight a b c d e f g h }
+fn word(bytes: [u8; 8]) -> u64
+    ensures { result ≡ eight_at bytes 0 }
 {
-    let high = e as u64 + 256 * (f as u64 + 256 * (g as u64 + 256 * (h as u64)));
-    a as u64 + 256 * (b as u64 + 256 * (c as u64 + 256 * (d as u64 + 256 * high)))
+    u64::from_le_bytes(bytes)
 }
 
 pub(crate) fn read(s: &[u8; 36]) -> Header
@@ -52,15 +51,15 @@ pub(crate) fn read(s: &[u8; 36]) -> Header
         code: s[3],
         tone: s[14],
         khin: s[15],
-        input: pair(s[4], s[5]),
-        other: pair(s[6], s[7]),
-        lent: pair(s[8], s[9]),
-        length: pair(s[10], s[11]),
-        body: pair(s[12], s[13]),
-        position: pair(s[16], s[17]),
-        wanted: pair(s[18], s[19]),
-        asked: word(s[20], s[21], s[22], s[23], s[24], s[25], s[26], s[27]),
-        count: word(s[28], s[29], s[30], s[31], s[32], s[33], s[34], s[35]),
+        input: pair([s[4], s[5]]),
+        other: pair([s[6], s[7]]),
+        lent: pair([s[8], s[9]]),
+        length: pair([s[10], s[11]]),
+        body: pair([s[12], s[13]]),
+        position: pair([s[16], s[17]]),
+        wanted: pair([s[18], s[19]]),
+        asked: word([s[20], s[21], s[22], s[23], s[24], s[25], s[26], s[27]]),
+        count: word([s[28], s[29], s[30], s[31], s[32], s[33], s[34], s[35]]),
     }
 }
 
@@ -68,5 +67,5 @@ pub(crate) fn read(s: &[u8; 36]) -> Header
 pub(crate) fn is_replayable(h: Header) -> bool
     ensures { result ≡ replayable h }
 {
-    (h.call <= 12) & (h.input <= MOST) & (h.other <= MOST) & (h.lent <= MOST) & (h.wanted <= MOST)
+    h.call <= 12 && h.input <= MOST && h.other <= MOST && h.lent <= MOST && h.wanted <= MOST
 }

@@ -1,4 +1,5 @@
-// The numbers that a caller passes, as the libraries have them. A call checks its numbers before it turns them.
+// The numbers that a caller passes, as the libraries have them. A call checks its numbers before it turns them. They are functions and no impls of
+// From, since ji and khiin, whose enums these are, know no numbers of C.
 ghost use Rattle.std.specs.Prelude.{◌≡◌};
 ghost use Rattle.robinflint.specs.Arguments.{tone_of, khin_of, kind_of, mode_of, keys_of};
 
@@ -29,33 +30,31 @@ pub fn tone_of(number: u64) -> Tone
 pub fn khin_of(number: u64) -> Khin
     ensures { result ≡ khin_of number }
 {
-    if number == 0 {
-        return Khin::No;
+    match number {
+        0 => Khin::No,
+        _ => Khin::Yes,
     }
-    Khin::Yes
 }
 
 // 0 is detoned, 1 numeric, any other number telex.
 pub fn kind_of(number: u64) -> Kind
     ensures { result ≡ kind_of number }
 {
-    if number == 0 {
-        return Kind::Detoned;
+    match number {
+        0 => Kind::Detoned,
+        1 => Kind::Numeric,
+        _ => Kind::Telex,
     }
-    if number == 1 {
-        return Kind::Numeric;
-    }
-    Kind::Telex
 }
 
 // 0 is numeric, any other number telex.
 pub fn mode_of(number: u64) -> ToneMode
     ensures { result ≡ mode_of number }
 {
-    if number == 0 {
-        return ToneMode::Numeric;
+    match number {
+        0 => ToneMode::Numeric,
+        _ => ToneMode::Telex,
     }
-    ToneMode::Telex
 }
 
 // The keys for t2 t3 t5 t6 t7 t8 t9.

@@ -14,7 +14,7 @@ ghost use Rattle.khiin_records.specs.Syllable.{from_raw_call, candidate_call};
 ghost use Rattle.robinflint.specs.Arguments.{compose_numbered, telex_numbered, keying_numbered};
 ghost use Rattle.robinflint.specs.Reply.{reply_of};
 
-use crate::reply::{Reply, found, refuse};
+use crate::reply::{Reply, found, refuse, to_reply};
 use ji::lomaji::{strip, tone_letter};
 use ji::reply::Refusal;
 use khiin::converter;
@@ -27,22 +27,7 @@ use khiin_records::{alignment, from_composed, from_raw};
 pub fn rf_strip(text: &[u8], out: &mut [u8]) -> Reply
     ensures { reply_of result out.new ≡ strip_call unicode16 text.now out.old }
 {
-    match strip::strip_tone_diacritic(text, out) {
-        Err(why) => refuse(why),
-        Ok(result) => {
-            let len = result.len;
-            let tone = result.tone;
-            Reply {
-                code: 0,
-                length: len.0 as u64,
-                count: 0,
-                body: 0,
-                tone: tone.number() as u64,
-                khin: 0,
-                position: 0,
-            }
-        }
-    }
+    to_reply(strip::strip_tone_diacritic(text, out))
 }
 
 // Where the tone letter of the text stands, in bytes: length 1 and the position, or length 0. Refuses with 2, 3, 4.
@@ -62,7 +47,7 @@ pub fn rf_tone_letter(text: &[u8]) -> Reply
 pub fn rf_from_raw(keys: &[u8], out: &mut [u8]) -> Reply
     ensures { reply_of result out.new ≡ from_raw_call keys.now out.old }
 {
-    reply::syllable(from_raw::from_raw(keys, out))
+    to_reply(from_raw::from_raw(keys, out))
 }
 
 // The record at the position of those that a composed syllable may be typed as, and how many there are. Refuses with 2, 3, 4, 6, 7.
@@ -70,7 +55,7 @@ pub fn rf_from_raw(keys: &[u8], out: &mut [u8]) -> Reply
 pub fn rf_candidate(text: &[u8], position: u64, out: &mut [u8]) -> Reply
     ensures { reply_of result out.new ≡ candidate_call unicode16 text.now position out.old }
 {
-    reply::syllable(from_composed::from_composed(text, position, out))
+    to_reply(from_composed::from_composed(text, position, out))
 }
 
 // The record of the keys that were typed for the syllable `target`: length 0 is "no alignment". Refuses with 2, 4 for the keys, 2, 3, 4 for the target, 7.
@@ -78,7 +63,7 @@ pub fn rf_candidate(text: &[u8], position: u64, out: &mut [u8]) -> Reply
 pub fn rf_align(keys: &[u8], target: &[u8], out: &mut [u8]) -> Reply
     ensures { reply_of result out.new ≡ align_call unicode16 keys.now target.now out.old }
 {
-    reply::syllable(alignment::from_conversion_alignment(keys, target, out))
+    to_reply(alignment::from_conversion_alignment(keys, target, out))
 }
 
 // What a syllable record is written as. Refuses with 1, 2, 3, 4, 7.
@@ -86,13 +71,10 @@ pub fn rf_align(keys: &[u8], target: &[u8], out: &mut [u8]) -> Reply
 pub fn rf_compose(raw: &[u8], body: &[u8], tone: u64, khin: u64, out: &mut [u8]) -> Reply
     ensures { reply_of result out.new ≡ compose_numbered raw.now body.now tone khin out.old }
 {
-    if 9 < tone {
+    if 9 < tone || 1 < khin {
         return refuse(Refusal::Argument);
     }
-    if 1 < khin {
-        return refuse(Refusal::Argument);
-    }
-    reply::text(compose::compose(
+    to_reply(compose::compose(
         raw,
         body,
         arguments::tone_of(tone),
@@ -106,13 +88,10 @@ pub fn rf_compose(raw: &[u8], body: &[u8], tone: u64, khin: u64, out: &mut [u8])
 pub fn rf_telex(text: &[u8], key: u64, mode: u64, keys: &[u8; 7], out: &mut [u8]) -> Reply
     ensures { reply_of result out.new ≡ telex_numbered text.now key mode keys.now out.old }
 {
-    if 1 < mode {
+    if 1 < mode || 0x7E < key {
         return refuse(Refusal::Argument);
     }
-    if 0x7E < key {
-        return refuse(Refusal::Argument);
-    }
-    reply::text(converter::convert_to_telex(
+    to_reply(converter::convert_to_telex(
         text,
         key as u8,
         arguments::mode_of(mode),
@@ -129,5 +108,5 @@ pub fn rf_keying(entry: &[u8], kind: u64, position: u64, out: &mut [u8]) -> Repl
     if 2 < kind {
         return refuse(Refusal::Argument);
     }
-    reply::keying(key_sequence::keying_at(entry, arguments::kind_of(kind), position, out))
+    to_reply(key_sequence::keying_at(entry, arguments::kind_of(kind), position, out))
 }

@@ -1,10 +1,14 @@
 // What a call replies to C.
-ghost use Rattle.std.specs.Prelude.{◌≡◌, List, [], ℕ};
+ghost use Rattle.std.specs.Prelude.{◌≡◌, List, [], ℕ, Result, Ok, Err, refl};
+ghost use Rattle.ji.specs.declared.reply.Refusal.{Refusal};
+ghost use Rattle.ji.specs.Reply as ji;
 ghost use Rattle.ji.specs.Reply.{refused, found, text_reply};
+ghost use Rattle.ji.specs.Lomaji.Strip.{strip_reply};
 ghost use Rattle.khiin_entries.specs.KeySequence.{keying_reply};
 ghost use Rattle.khiin_records.specs.Syllable.{record_reply};
 ghost use Rattle.robinflint.specs.Reply.{reply_of};
 
+use ji::lomaji::strip::StripResult;
 use ji::reply::Refusal;
 use ji::unicode::ByteLen;
 use khiin_entries::key_sequence::KeyingResult;
@@ -23,6 +27,17 @@ pub struct Reply {
     pub position: u64,
 }
 
+// The numbers of a call that gives none.
+pub const ZEROS: Reply = Reply {
+    code: 0,
+    length: 0,
+    count: 0,
+    body: 0,
+    tone: 0,
+    khin: 0,
+    position: 0,
+};
+
 // A refusal: its number, and zeros.
 #[inline(always)]
 pub fn refuse(why: Refusal) -> Reply
@@ -30,12 +45,7 @@ pub fn refuse(why: Refusal) -> Reply
 {
     Reply {
         code: why.number(),
-        length: 0,
-        count: 0,
-        body: 0,
-        tone: 0,
-        khin: 0,
-        position: 0,
+        ..ZEROS
     }
 }
 
@@ -45,78 +55,102 @@ pub fn found(length: u64, position: u64) -> Reply
     ensures { reply_of result [] ≡ found length position }
 {
     Reply {
-        code: 0,
-        length: length,
-        count: 0,
-        body: 0,
-        tone: 0,
-        khin: 0,
-        position: position,
+        length,
+        position,
+        ..ZEROS
     }
 }
 
+// A good answer of a call, which is laid out in numbers. `reply` says what the call replies to it, or to a refusal, with what the lent buffer holds.
+pub trait Answer: Copy {
+    ghost reply: { Result Self Refusal → List ℕ → ji.Reply };
+
+    fn numbers(self) -> Reply
+        ensures { (buffer : List ℕ) → reply_of result buffer ≡ reply (Ok self) buffer };
+
+    ghost refusal: { (why : Refusal) (buffer : List ℕ) → reply (Err why) buffer ≡ refused why buffer };
+}
+
 // A text in the lent buffer.
-#[inline(always)]
-pub fn text(answer: Result<ByteLen, Refusal>) -> Reply
-    ensures { (buffer : List ℕ) → reply_of result buffer ≡ text_reply answer buffer }
-{
-    match answer {
-        Err(why) => refuse(why),
-        Ok(len) => Reply {
-            code: 0,
-            length: len.0 as u64,
-            count: 0,
-            body: 0,
-            tone: 0,
-            khin: 0,
-            position: 0,
-        },
+impl Answer for ByteLen {
+    ghost reply = { text_reply };
+
+    ghost refusal = { λ why buffer. refl };
+
+    #[inline(always)]
+    fn numbers(self) -> Reply {
+        Reply {
+            length: self.0 as u64,
+            ..ZEROS
+        }
+    }
+}
+
+// A stripped text in the lent buffer, and its tone.
+impl Answer for StripResult {
+    ghost reply = { strip_reply };
+
+    ghost refusal = { λ why buffer. refl };
+
+    #[inline(always)]
+    fn numbers(self) -> Reply {
+        Reply {
+            length: self.len.0 as u64,
+            tone: self.tone.number() as u64,
+            ..ZEROS
+        }
     }
 }
 
 // A syllable record, with its raw input in the lent buffer.
-#[inline(always)]
-pub fn syllable(answer: Result<Record, Refusal>) -> Reply
-    ensures { (buffer : List ℕ) → reply_of result buffer ≡ record_reply answer buffer }
-{
-    match answer {
-        Err(refusal) => refuse(refusal),
-        Ok(result) => {
-            let len = result.len;
-            let body = result.body;
-            let tone = result.tone;
-            let khin = result.khin;
-            Reply {
-                code: 0,
-                length: len.0 as u64,
-                count: result.count,
-                body: body.0 as u64,
-                tone: tone.number() as u64,
-                khin: khin.number(),
-                position: 0,
-            }
+impl Answer for Record {
+    ghost reply = { record_reply };
+
+    ghost refusal = { λ why buffer. refl };
+
+    #[inline(always)]
+    fn numbers(self) -> Reply {
+        let Record {
+            len,
+            count,
+            body,
+            tone,
+            khin,
+        } = self;
+        Reply {
+            length: len.0 as u64,
+            count,
+            body: body.0 as u64,
+            tone: tone.number() as u64,
+            khin: khin.number(),
+            ..ZEROS
         }
     }
 }
 
 // A keying in the lent buffer, and how many its list has.
+impl Answer for KeyingResult {
+    ghost reply = { keying_reply };
+
+    ghost refusal = { λ why buffer. refl };
+
+    #[inline(always)]
+    fn numbers(self) -> Reply {
+        Reply {
+            length: self.len.0 as u64,
+            count: self.count,
+            ..ZEROS
+        }
+    }
+}
+
+// The reply to an answer, or to the refusal in its place.
 #[inline(always)]
-pub fn keying(answer: Result<KeyingResult, Refusal>) -> Reply
-    ensures { (buffer : List ℕ) → reply_of result buffer ≡ keying_reply answer buffer }
+pub fn to_reply<A: Answer>(answer: Result<A, Refusal>) -> Reply
+    ensures { (buffer : List ℕ) → reply_of result buffer ≡ A.reply answer buffer }
 {
     match answer {
+        Ok(answer) => answer.numbers(),
         Err(why) => refuse(why),
-        Ok(keying) => {
-            let len = keying.len;
-            Reply {
-                code: 0,
-                length: len.0 as u64,
-                count: keying.count,
-                body: 0,
-                tone: 0,
-                khin: 0,
-                position: 0,
-            }
-        }
     }
 }

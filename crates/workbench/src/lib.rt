@@ -18,21 +18,20 @@ use ji::reply::Refusal;
 use ji::{nfc, nfd};
 use khiin_entries::listing;
 use robinflint::arguments::kind_of;
-use robinflint::reply;
-use robinflint::reply::Reply;
+use robinflint::reply::{Reply, ZEROS, found, refuse, to_reply};
 
 // NFD of the text. Refuses with 2, 3, 4, 7.
 pub fn wb_nfd(text: &[u8], out: &mut [u8]) -> Reply
     ensures { reply_of result out.new ≡ text_call unicode16 (nfd unicode16) text.now out.old }
 {
-    reply::text(nfd::to_nfd(text, out))
+    to_reply(nfd::to_nfd(text, out))
 }
 
 // NFC of the text. Refuses with 2, 3, 4, 7.
 pub fn wb_nfc(text: &[u8], out: &mut [u8]) -> Reply
     ensures { reply_of result out.new ≡ text_call unicode16 (nfc unicode16) text.now out.old }
 {
-    reply::text(nfc::to_nfc(text, out))
+    to_reply(nfc::to_nfc(text, out))
 }
 
 // What `strip_khin` hands back: the length of the rest, where it begins, and whether there was a mark.
@@ -41,13 +40,10 @@ pub fn wb_strip_khin(text: &[u8]) -> Reply
 {
     let rest = khin::strip_khin(text);
     Reply {
-        code: 0,
         length: rest.len() as u64,
-        count: 0,
-        body: 0,
-        tone: 0,
         khin: khin::khin_of(text).number(),
         position: (text.len() - rest.len()) as u64,
+        ..ZEROS
     }
 }
 
@@ -56,9 +52,9 @@ pub fn wb_has_tone_letter(text: &[u8]) -> Reply
     ensures { reply_of result [] ≡ has_tone_letter_call unicode16 text.now }
 {
     match tone_letter::has_tone_letter(text) {
-        Err(why) => reply::refuse(why),
-        Ok(true) => reply::found(1, 0),
-        Ok(false) => reply::found(0, 0),
+        Err(why) => refuse(why),
+        Ok(true) => found(1, 0),
+        Ok(false) => found(0, 0),
     }
 }
 
@@ -66,22 +62,19 @@ pub fn wb_has_tone_letter(text: &[u8]) -> Reply
 pub fn wb_keys(text: &[u8], form: u64, kind: u64, out: &mut [u8]) -> Reply
     ensures { reply_of result out.new ≡ keys_call form kind text.now out.old }
 {
-    if 1 < form {
-        return reply::refuse(Refusal::Argument);
+    if 1 < form || 2 < kind {
+        return refuse(Refusal::Argument);
     }
-    if 2 < kind {
-        return reply::refuse(Refusal::Argument);
-    }
-    reply::text(keys::keys(text, form_of(form), kind_of(kind), out))
+    to_reply(keys::keys(text, form_of(form), kind_of(kind), out))
 }
 
 fn form_of(number: u64) -> Form
     ensures { result ≡ form_of number }
 {
-    if number == 0 {
-        return Form::Plain;
+    match number {
+        0 => Form::Plain,
+        _ => Form::Oo,
     }
-    Form::Oo
 }
 
 // The lines of an entry's listing from number `from` on, as many as go into `out` whole: as the length how many bytes, as the count how many lines,
@@ -90,14 +83,10 @@ pub fn wb_listing(entry: &[u8], from: u64, out: &mut [u8]) -> Reply
     ensures { reply_of result out.new ≡ listing_call entry.now from out.old }
 {
     let listed = listing::list(entry, from, out);
-    let len = listed.len;
     Reply {
-        code: 0,
-        length: len.0 as u64,
+        length: listed.len.0 as u64,
         count: listed.next - from,
-        body: 0,
-        tone: 0,
-        khin: 0,
         position: listed.next,
+        ..ZEROS
     }
 }

@@ -21,6 +21,6 @@ returns-then-kind-gt2 c = let a = c.args in c.refuse.ensures a.out.now ∙ by_te
 pub returns : goal.returns
 returns c =
     let a = c.args in
-    c.keying.ensures c.keying_at.new.out
+    c.to_reply.ensures c.keying_at.new.out
     ∙ rw c.kind_of.ensures at c.keying_at.ensures
     ∙ by_test a.entry.now a.kind a.position a.out.now true (le-leb _ _ c.if-kind-gt2.false)

@@ -1,9 +1,10 @@
-use Rattle.std.proofs.Common.{arith}
-use Rattle.replay.proofs.Laws.{yes, no, all_untouched, one_touched}
+use Rattle.std.proofs.Common.{◌≡◌, ◌∙◌, ap, ℕ, List, length, get_or, rules}
+use Rattle.std.specs.Prelude.{IsTrue, ◌↔◌, EachIndex, slice_index}
+use Rattle.replay.proofs.Laws.{all_untouched, untouched_at}
 use Rattle.replay.proofs.expected.is_untouched.Goals as goal
 
 pub returns : goal.returns
-returns c = yes (all_untouched c.args.bytes.now (λ k h. c.loop-i.invariant.1 k (omega arith)))
-
-pub returns-then-bytes-i : goal.returns-then-bytes-i
-returns-then-bytes-i c = no (one_touched c.args.bytes.now c.loop-i.i (omega arith) c.if-bytes-i.true)
+returns c =
+    let s = c.args.bytes.now in
+    let h : IsTrue c.all.result ↔ EachIndex s (λ k. slice_index s k ≡ 0xA5) = search rules in
+    (λ e. all_untouched s (λ k i. h.0 e k i), λ e. h.1 (λ k i. ap (λ (l : List ℕ). get_or l k 0) e ∙ untouched_at (length s) k i))
