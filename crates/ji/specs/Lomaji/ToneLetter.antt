@@ -1,5 +1,5 @@
 -- The tone letter (document 01, "ji: strip_tone_diacritic", third paragraph).
-use Rattle.std.specs.Prelude.{Bool, true, false, ◌&&◌, List, [], ◌∷◌, ℕ, ◌+◌}
+use Rattle.std.specs.Prelude.{Bool, true, false, ◌&&◌, List, [], ◌∷◌, ℕ, ◌+◌, get_or}
 use Rattle.std.proofs.Math.Option.{Option, none, some}
 use Prim.Native.String.{String}
 use Rattle.ucd.specs.Table.{Table, listed}
@@ -65,6 +65,11 @@ is_some (some k) = true
 -- "`has_tone_letter` applies it to the NFD"
 unfoldable pub has_tone_letter : Table → List ℕ → Bool
 has_tone_letter t s = is_some (tone_letter (nfd t s))
+
+-- the pattern that the code found, and its place, as the place of the tone letter
+abbrev pub letter_found : Found (ℕ × ℕ) → Option ℕ
+letter_found (Some p) = some ((get_or patterns p.0 ([], 0)).1 + p.1)
+letter_found None = none
 
 -- a place as the code has it
 abbrev pub place_of : Found CharLen → Option ℕ

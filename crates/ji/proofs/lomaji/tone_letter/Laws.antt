@@ -1,7 +1,7 @@
 -- The search for the tone letter, a pattern and a place at a time; and that it stands in the text.
 use mathlib.Core.Path.{◌≡◌, refl, sym, ap, ap₂, ◌∙◌}
 use mathlib.Core.Bool.{Bool, true, false, ◌&&◌, ◌||◌}
-use mathlib.Core.List.{List, [], ◌∷◌}
+use mathlib.Core.List.{List, [], ◌∷◌, map}
 use mathlib.Core.Option.{Option, none, some, none-ne-some, some-injective}
 use Prim.Native.Nat.{ℕ, zero, suc, ◌+◌, ◌≤◌, ◌<◌}
 use Prim.Native.String.{String}
@@ -14,12 +14,13 @@ use lib.ListN.{length, drop, get_or, drop_of_length-le, get_or-eq_default}
 use lib.Seq.{drop-cons}
 use Rattle.ucd.specs.Table.{Table, All, listed}
 use Rattle.ji.specs.Text.{points, point, lower}
-use Rattle.ji.specs.Lomaji.ToneLetter.{patterns, matches, pick_place, further, or_else, first_place, searched, tone_letter, is_some, has_tone_letter, place_of, letter_at, tone_letter_of, tone_letter_call, has_letter_reply, has_tone_letter_of, has_tone_letter_call}
+use Rattle.ji.specs.Lomaji.ToneLetter.{patterns, matches, pick_place, further, or_else, first_place, searched, tone_letter, is_some, has_tone_letter, place_of, letter_at, tone_letter_of, tone_letter_call, has_letter_reply, has_tone_letter_of, has_tone_letter_call, has_tone_letter_reply}
 use Rattle.ji.specs.Nfd.{nfd}
 use Rattle.ji.specs.Reply.{refused, good, bad, check_text}
 use Rattle.ji.specs.declared.reply.Refusal.{Refusal}
 use Rattle.ji.proofs.Bools.{false_true, either, and_yes, and_no, and_true, and_right, or_no}
-use Rattle.std.specs.Prelude.{Option as Found, None}
+use Rattle.std.specs.List.{list_any}
+use Rattle.std.specs.Prelude.{Option as Found, Ok}
 use Rattle.ji.specs.declared.unicode.CharLen.{CharLen}
 
 -- pattern k: its letters, and which of them is the tone letter
@@ -59,6 +60,21 @@ later_letter k h n =
     of_nine (λ (j : ℕ). (j ≡ 0 → ⊥) → 0 ≡ (pattern j).1)
     (λ z. absurd (z refl)) (λ z. refl) (λ z. refl) (λ z. refl) (λ z. refl) (λ z. refl) (λ z. refl) (λ z. refl) (λ z. refl)
     k h n
+
+-- the letters that the patterns begin with
+abbrev First : ℕ → ℕ → Type 0
+First k x = (x ≡ point (get_or (pattern k).0 0 "")) × (0x61 ≤ x) × (x ≤ 0x7A)
+
+abbrev firsts : List ℕ
+firsts = 0x6F ∷ 0x6F ∷ 0x61 ∷ 0x65 ∷ 0x75 ∷ 0x69 ∷ 0x6E ∷ 0x6E ∷ 0x6D ∷ []
+
+pub first_letter : (k : ℕ) → k < 9 → First k (get_or firsts k 0)
+first_letter k h =
+    of_nine (λ (j : ℕ). First j (get_or firsts j 0))
+    (refl, omega arith, omega arith) (refl, omega arith, omega arith) (refl, omega arith, omega arith)
+    (refl, omega arith, omega arith) (refl, omega arith, omega arith) (refl, omega arith, omega arith)
+    (refl, omega arith, omega arith) (refl, omega arith, omega arith) (refl, omega arith, omega arith)
+    k h
 
 -- ── letters
 -- x is one of the letters xs, or none of them
@@ -240,14 +256,21 @@ no_o s h =
     ∙ search_next s 0 (omega arith) (place_none (pattern 0).0 s (λ at l. not_begun s at 0 (omega arith) _ _ refl refl (eqb-false _ _ (h at l))))
     ∙ search_next s 1 (omega arith) (place_none (pattern 1).0 s (λ at l. not_begun s at 1 (omega arith) _ _ refl refl (eqb-false _ _ (h at l))))
 
--- one place more without it
-pub o_later : (s : List ℕ) (at : ℕ) → ((i : ℕ) → i < at → eqb (lower (get_or s i 0)) (point "o") ≡ false) → eqb (lower (get_or s at 0)) (point "o") ≡ false
-    → (i : ℕ) → i < at + 1 → eqb (lower (get_or s i 0)) (point "o") ≡ false
-o_later s at h e i l = by_place (ℕ_discrete i at)
-  where
-    by_place : Dec (i ≡ at) → eqb (lower (get_or s i 0)) (point "o") ≡ false
-    by_place (yes z) = ap (λ (k : ℕ). eqb (lower (get_or s k 0)) (point "o")) z ∙ e
-    by_place (no z) = h i (omega arith)
+-- where neither of two holds, each does not
+or_left_false : (a b : Bool) → (a || b) ≡ false → a ≡ false
+or_left_false true b e = e
+or_left_false false b e = refl
+
+or_right_false : (a b : Bool) → (a || b) ≡ false → b ≡ false
+or_right_false true b e = absurd (false_true (sym e))
+or_right_false false b e = e
+
+-- so none of the letters is o, where none was found to be
+pub none_o : {X : Type 0} (number : X → ℕ) (s : List X) → list_any (λ x. eqb (lower (number x)) (point "o")) s ≡ false
+    → (at : ℕ) → at < length (map number s) → eqb (lower (get_or (map number s) at 0)) (point "o") ≡ false
+none_o number [] h at l = absurd (omega arith)
+none_o number (x ∷ s) h zero l = or_left_false _ _ h
+none_o number (x ∷ s) h (suc at) l = none_o number s (or_right_false (eqb (lower (number x)) (point "o")) _ h) at (omega arith)
 
 -- ── the tone letter stands in the text
 -- what is n further than a place is some, only where the place is
@@ -300,6 +323,11 @@ tone_letter_below s k e = search_below patterns (omega arith) s k e
 -- what was found, as the definition has it
 pub letter_found : (s : List ℕ) {p x : Found CharLen} → p ≡ x → place_of p ≡ tone_letter s → place_of x ≡ tone_letter s
 letter_found s e h = ap place_of (sym e) ∙ h
+
+-- whether there is one, as the code has it
+pub has_reply : (b : Bool) → has_tone_letter_reply (Ok b) ≡ has_letter_reply b
+has_reply true = refl
+has_reply false = refl
 
 module _ (t : Table) (text : List ℕ) where
   pub letter_refused : (why : Refusal) → check_text t text ≡ bad why → refused why [] ≡ tone_letter_call t text

@@ -9,6 +9,7 @@ use Prim.Native.String.{String}
 use native.Mathlib.Omega.{arith}
 use borrow.Author.Tests.{eqb-true}
 use lib.Dec.{eqb}
+use Rattle.std.specs.List.{list_any}
 use Rattle.ucd.specs.Table.{Table, All, listed}
 use Rattle.ji.specs.Text.{points, lower}
 use Rattle.ji.specs.Nfd.{nfd}
@@ -154,6 +155,10 @@ letter_more x s =
 pub letter_nil : is_some (tone_letter []) ≡ false
 unfolding tone_letter searched first_place
 letter_nil = refl
+
+pub letter_any : (s : List ℕ) → is_some (tone_letter s) ≡ list_any (λ x. listed (points "oaeuinm") (lower x)) s
+letter_any [] = letter_nil
+letter_any (x ∷ s) = letter_more x s ∙ ap (λ (b : Bool). listed (points "oaeuinm") (lower x) || b) (letter_any s)
 
 abbrev Singles : List (List String × ℕ) → Type 0
 Singles [] = Unit {0}

@@ -4,16 +4,10 @@ use mathlib.Core.List.{List}
 use Prim.Native.Nat.{ℕ}
 use Rattle.ucd.specs.Unicode16.{unicode16}
 use Rattle.ji.specs.Lomaji.ToneLetter.{tone_letter, is_some, has_letter_reply}
-use Rattle.ji.proofs.Writing.{written_length}
-use Rattle.ji.proofs.Readings.{front, nfd_told}
-use Rattle.ji.proofs.lomaji.tone_letter.Laws.{has_refused, has_good}
-use native.Mathlib.Omega.{arith}
+use Rattle.ji.proofs.Writing.{written_take}
+use Rattle.ji.proofs.Readings.{nfd_told}
+use Rattle.ji.proofs.lomaji.tone_letter.Laws.{has_refused, has_good, has_reply}
 use Rattle.ji.proofs.lomaji.tone_letter.has_tone_letter.Goals as goal
-
-pub slice_bounds-has_letter-end : goal.slice_bounds-has_letter-end
-slice_bounds-has_letter-end c =
-    let w = (nfd_told unicode16 _ _ _ c.in_ok-len.was c.read_nfd.ensures).2 in
-    omega (arith, w.fits, written_length w)
 
 pub returns-in_err-len : goal.returns-in_err-len
 returns-in_err-len c =
@@ -25,4 +19,7 @@ pub returns : goal.returns
 returns c =
     let a = c.args in
     let h = nfd_told unicode16 _ _ _ c.in_ok-len.was c.read_nfd.ensures in
-    c.has_letter.ensures ∙ ap (λ (s : List ℕ). has_letter_reply (is_some (tone_letter s))) (front h.2) ∙ has_good unicode16 a.text.now h.0 h.1
+    has_reply c.holds_letter.result
+    ∙ ap has_letter_reply c.holds_letter.ensures
+    ∙ ap (λ (s : List ℕ). has_letter_reply (is_some (tone_letter s))) (written_take h.2)
+    ∙ has_good unicode16 a.text.now h.0 h.1

@@ -37,7 +37,8 @@ module _ (x small : ℕ) (low : 0x61 ≤ small) (high : small ≤ 0x7A) where
           ne_eqb _ _ m ∙ sym (ne_eqb _ _ (λ z. n (sym (number_no _ _ _ (within_below 65 90 x (omega arith))) ∙ z)))
 
 pub returns-then-x-small : goal.returns-then-x-small
-returns-then-x-small c = sym (itself c.args.x c.args.small c.requires.0 c.requires.1 c.if-x-small.true)
+returns-then-x-small c =
+    eq-eqb _ _ c.if-x-small.true ∙ sym (itself c.args.x c.args.small c.requires.0 c.requires.1 c.if-x-small.true)
 
-pub returns : goal.returns
-returns c = by_capital c.args.x c.args.small c.requires.0 c.requires.1 c.if-x-small.false
+pub returns-else-x-small : goal.returns-else-x-small
+returns-else-x-small c = by_capital c.args.x c.args.small c.requires.0 c.requires.1 c.if-x-small.false
