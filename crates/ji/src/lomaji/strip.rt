@@ -1,5 +1,6 @@
 // `strip_tone_diacritic`: a text without its tone marks, and its tone.
-ghost use Rattle.std.specs.Prelude.{◌≡◌, ◌+◌, ◌*◌, ◌≤◌, length};
+ghost use Rattle.std.specs.Prelude.{◌≡◌, ◌+◌, ◌*◌, ◌≤◌, map, length};
+ghost use Rattle.ji.specs.Text.{lower};
 ghost use Rattle.ucd.specs.Unicode16.{unicode16};
 ghost use Rattle.ji.specs.Written.{Written};
 ghost use Rattle.ji.specs.Utf8.{encode};
@@ -40,62 +41,47 @@ pub(crate) fn mark_tone(c: u16) -> Tone
 
 // How many code points are left of a text, and the tone of its last mark, None where it has none.
 #[derive(Clone, Copy)]
-pub(crate) struct Dropped {
-    pub left: CharLen,
-    pub tone: Tone,
+struct Dropped {
+    left: CharLen,
+    tone: Tone,
 }
 
 // Drops the tone marks of `s`, in place.
-pub(crate) fn drop_marks(s: &mut [u16]) -> Dropped
+fn drop_marks(s: &mut [u16]) -> Dropped
     ensures { Written s.old s.new result.left.0 (without_marks s.old) × (result.tone ≡ last_tone Tone.None (dropped_marks s.old)) }
 {
-    let mut i = 0;
-    let mut n = 0;
-    let mut last = Tone::None;
-    while i < s.len() {
+    let mut left = 0;
+    let mut tone = Tone::None;
+    for i in 0..s.len() {
         let c = s[i];
-        let tone = mark_tone(c);
-        if tone.is_tone() {
-            last = tone;
-            i += 1;
+        let mark = mark_tone(c);
+        if mark.is_tone() {
+            tone = mark;
         } else {
-            s[n] = c;
-            n += 1;
-            i += 1;
+            s[left] = c;
+            left += 1;
         }
     }
-    Dropped {
-        left: CharLen(n),
-        tone: last,
-    }
+    let left = CharLen(left);
+    Dropped { left, tone }
 }
 
-// Whether the last bytes of `s`, in lower case, are `ending`.
+// Whether the last bytes of `s`, in lower case, are `ending`, which is in lower case.
 fn ends_in(ending: &[u8], s: &[u8]) -> bool
+    requires { map lower ending.now ≡ ending.now }
     ensures { result ≡ ends_in ending.now s.now }
 {
-    if s.len() < ending.len() {
-        return false;
-    }
-    let at = s.len() - ending.len();
-    let mut i = 0;
-    while i < ending.len() {
-        if lower_byte(s[at + i]) != ending[i] {
-            return false;
-        }
-        i += 1;
-    }
-    true
+    s.len() >= ending.len() && s[s.len() - ending.len()..].eq_ignore_ascii_case(ending)
 }
 
 // Whether `s` has one of the seven endings of a stop. Its last byte tells which of them it might have.
 fn ends_in_any(s: &[u8]) -> bool
     ensures { result ≡ ends_in_any stop_endings s.now }
 {
-    if s.len() == 0 {
+    let Some(&last) = s.last() else {
         return false;
-    }
-    match lower_byte(s[s.len() - 1]) {
+    };
+    match lower_byte(last) {
         b'h' => ends_in(b"h", s),
         b'p' => ends_in(b"p", s),
         b't' => ends_in(b"t", s),
@@ -111,20 +97,18 @@ fn ends_in_any(s: &[u8]) -> bool
 pub fn unmarked_tone(s: &[u8]) -> Tone
     ensures { result ≡ unmarked_tone s.now }
 {
-    if ends_in_any(s) {
-        return Tone::T4;
-    }
-    Tone::T1
+    if ends_in_any(s) { Tone::T4 } else { Tone::T1 }
 }
 
 // The tone: of the last mark, or by the ending of the stripped text, whose bytes `s` are.
-pub(crate) fn tone_of(last: Tone, s: &[u8]) -> Tone
+fn tone_of(last: Tone, s: &[u8]) -> Tone
     ensures { result ≡ tone_or last (unmarked_tone s.now) }
 {
     if last.is_tone() {
-        return last;
+        last
+    } else {
+        unmarked_tone(s)
     }
-    unmarked_tone(s)
 }
 
 // Writes the stripped text `s` to `out`, and answers its length and its tone.
@@ -132,17 +116,12 @@ fn place(s: &[u16], last: Tone, out: &mut [u8]) -> Result<StripResult, Refusal>
     requires { length s.now ≤ 65536 }
     ensures { strip_reply result out.new ≡ placed (tone_number (tone_or last (unmarked_tone (encode s.now)))) (encode s.now) out.old }
 {
-    let needed = utf8::encoded_len(s);
-    if out.len() < needed.0 {
+    if out.len() < utf8::encoded_len(s).0 {
         return Err(Refusal::NoRoom);
     }
     let len = utf8::encode(s, out);
-    let n = len.0;
-    let tone = tone_of(last, &out[0..n]);
-    Ok(StripResult {
-        len: len,
-        tone: tone,
-    })
+    let tone = tone_of(last, &out[..len.0]);
+    Ok(StripResult { len, tone })
 }
 
 // Puts the fully decomposed text `s` into canonical order, drops its marks and writes what is left.
@@ -151,50 +130,30 @@ fn finish(s: &mut [u16], out: &mut [u8]) -> Result<StripResult, Refusal>
     ensures { strip_reply result out.new ≡ stripped_reply (order unicode16 s.old) out.old }
 {
     nfd::order(s);
-    let dropped = drop_marks(s);
-    let left = dropped.left;
-    let n = left.0;
-    let last = dropped.tone;
-    place(&s[0..n], last, out)
+    let Dropped { left, tone } = drop_marks(s);
+    place(&s[..left.0], tone, out)
 }
 
-// Strips `text` in a buffer of code points.
-fn strip_in(text: &[u8], points: &mut [u16], out: &mut [u8]) -> Result<StripResult, Refusal>
-    requires { (length text.now ≤ 256) × (3 * length text.now ≤ 2 * length points.old) × (length points.old ≤ 65536) }
+// Strips a text step by step, in a buffer of `N` code points.
+fn strip_slowly_with<const N: usize>(text: &[u8], out: &mut [u8]) -> Result<StripResult, Refusal>
+    requires { (length text.now ≤ 256) × (3 * length text.now ≤ 2 * N) × (N ≤ 65536) }
     ensures { strip_reply result out.new ≡ strip_call unicode16 text.now out.old }
 {
-    let len = unicode::decode(text, true, points)?;
-    let n = len.0;
-    finish(&mut points[0..n], out)
+    let mut points = [0u16; N];
+    let len = unicode::decode(text, true, &mut points)?;
+    finish(&mut points[..len.0], out)
 }
 
-// In a buffer for a text of at most 32 bytes: clearing a small one is quicker.
-fn strip_in_short(text: &[u8], out: &mut [u8]) -> Result<StripResult, Refusal>
-    requires { length text.now ≤ 32 }
-    ensures { strip_reply result out.new ≡ strip_call unicode16 text.now out.old }
-{
-    let mut points = [0u16; 48];
-    strip_in(text, &mut points, out)
-}
-
-// In a buffer for any text.
-fn strip_in_long(text: &[u8], out: &mut [u8]) -> Result<StripResult, Refusal>
-    requires { length text.now ≤ 256 }
-    ensures { strip_reply result out.new ≡ strip_call unicode16 text.now out.old }
-{
-    let mut points = [0u16; 384];
-    strip_in(text, &mut points, out)
-}
-
-// Strips a text step by step: what the quick walk gives up.
+// What the quick walk gives up. A short text goes in a small buffer, since clearing it is quicker.
 fn strip_slowly(text: &[u8], out: &mut [u8]) -> Result<StripResult, Refusal>
     requires { length text.now ≤ 256 }
     ensures { strip_reply result out.new ≡ strip_call unicode16 text.now out.old }
 {
     if text.len() <= 32 {
-        return strip_in_short(text, out);
+        strip_slowly_with::<48>(text, out)
+    } else {
+        strip_slowly_with::<384>(text, out)
     }
-    strip_in_long(text, out)
 }
 
 // Writes the bytes of a stripped text to `out`, and answers its length and its tone.
@@ -205,41 +164,22 @@ fn place_bytes(s: &[u8], last: Tone, out: &mut [u8]) -> Result<StripResult, Refu
         return Err(Refusal::NoRoom);
     }
     reply::copy(s, out);
-    Ok(StripResult {
-        len: ByteLen(s.len()),
-        tone: tone_of(last, s),
-    })
+    let len = ByteLen(s.len());
+    let tone = tone_of(last, s);
+    Ok(StripResult { len, tone })
 }
 
-// Strips a text in one walk into a buffer of bytes, or else step by step.
-fn strip_by(text: &[u8], bytes: &mut [u8], out: &mut [u8]) -> Result<StripResult, Refusal>
-    requires { (length text.now ≤ 256) × (length text.now ≤ length bytes.old) × (length bytes.old ≤ 65536) }
+// Strips a text in one walk into a buffer of `N` bytes, or else step by step. Stripping makes a text longer by half at most, so that the walk always
+// has room in a buffer that has half as much again.
+fn strip_with<const N: usize>(text: &[u8], out: &mut [u8]) -> Result<StripResult, Refusal>
+    requires { (length text.now ≤ 256) × (length text.now ≤ N) × (N ≤ 65536) }
     ensures { strip_reply result out.new ≡ strip_call unicode16 text.now out.old }
 {
-    match quick::walk(text, bytes) {
+    let mut bytes = [0u8; N];
+    match quick::walk(text, &mut bytes) {
+        Some((len, last)) => place_bytes(&bytes[..len.0], last, out),
         None => strip_slowly(text, out),
-        Some((len, last)) => {
-            let n = len.0;
-            place_bytes(&bytes[0..n], last, out)
-        }
     }
-}
-
-// A text of at most 32 bytes. Stripping makes a text longer by half at most, so the walk always has room.
-fn strip_short(text: &[u8], out: &mut [u8]) -> Result<StripResult, Refusal>
-    requires { length text.now ≤ 32 }
-    ensures { strip_reply result out.new ≡ strip_call unicode16 text.now out.old }
-{
-    let mut bytes = [0u8; 64];
-    strip_by(text, &mut bytes, out)
-}
-
-fn strip_long(text: &[u8], out: &mut [u8]) -> Result<StripResult, Refusal>
-    requires { length text.now ≤ 256 }
-    ensures { strip_reply result out.new ≡ strip_call unicode16 text.now out.old }
-{
-    let mut bytes = [0u8; 400];
-    strip_by(text, &mut bytes, out)
 }
 
 // A text of any kind.
@@ -248,9 +188,10 @@ fn strip_any(text: &[u8], out: &mut [u8]) -> Result<StripResult, Refusal>
     ensures { strip_reply result out.new ≡ strip_call unicode16 text.now out.old }
 {
     if text.len() <= 32 {
-        return strip_short(text, out);
+        strip_with::<64>(text, out)
+    } else {
+        strip_with::<400>(text, out)
     }
-    strip_long(text, out)
 }
 
 // The text without its tone marks, in NFD, in `out`, and its tone. Most texts are kept whole, or have one letter with a mark.

@@ -6,9 +6,13 @@ use Prim.Native.Nat.{ℕ, zero, suc, ◌+◌, ◌-◌, ◌≤◌, ◌<◌}
 use native.Mathlib.Omega.{arith}
 use native.Mathlib.Numerals.{add-one}
 use lib.Dec.{eqb, leb}
-use borrow.Author.Tests.{eq-eqb, ne_eqb, eqb-false, leb-true, leb-false}
-use lib.ListN.{length, drop, get_or, drop_of_length-le}
-use lib.Seq.{drop-cons}
+use native.Mathlib.Decide.{dec_lt}
+use borrow.Author.Tests.{ne_eqb, eqb-false, leb-true, leb-false, lt-ltb, le-ltb}
+use lib.ListN.{length, take, drop, get_or, length-drop, drop_of_length-le}
+use lib.Seq.{drop-cons, take_all}
+use Rattle.std.specs.Char.{to_ascii_lowercase}
+use Rattle.std.specs.Prelude.{IsTrue, ◌↔◌}
+use Rattle.ucd.proofs.Tests.{same_equal, same_itself, true_passes}
 use Rattle.ucd.specs.Table.{Table, same}
 use Rattle.ji.specs.Text.{lower}
 use Rattle.ji.specs.Utf8.{bytes_of, decode, encode}
@@ -20,7 +24,10 @@ use Rattle.ji.specs.declared.reply.Refusal.{Refusal}
 use Rattle.ji.specs.Lomaji.Strip.{tone_marks, tone_in, mark_in, mark_tone, is_tone_mark, without_marks, dropped_marks, last_tone, ends_in, ends_in_any, stop_endings, unmarked_tone, tone_or, stripped, stripped_reply, strip_of, strip_call}
 use Rattle.ji.specs.declared.tone.Tone.{Tone}
 use Rattle.ji.specs.declared.tone.Tone.TheVariants.{None}
-use Rattle.ji.proofs.Bools.{either, and_no, and_yes, and_false, or_yes, or_no, or_false, text_yes, text_no}
+use Rattle.std.specs.Prelude.{Some, None as None'}
+use Rattle.std.specs.List.{slice_get}
+use Rattle.std.proofs.lemmas.Option.{slice_get-get_or, get_or_from_slice_get}
+use Rattle.ji.proofs.Bools.{either, false_true, and_no, and_false, or_yes, or_no, or_false, text_yes, text_no, number_yes, number_no, within_yes, within_below, within_above}
 use Rattle.ji.proofs.Replies.{check_within_law}
 
 -- ── marks
@@ -101,6 +108,37 @@ map_length : (s : List ℕ) → length (map lower s) ≡ length s
 map_length [] = refl
 map_length (x ∷ s) = ap suc (map_length s)
 
+-- the library's test of two texts with the case ignored is ours, where one of them is in lower case
+lower_is : (x : ℕ) → to_ascii_lowercase x ≡ lower x
+unfolding lower
+lower_is x = by_place (dec_lt x 65) (dec_lt x 91)
+  where
+    by_place : Dec (x < 65) → Dec (x < 91) → to_ascii_lowercase x ≡ lower x
+    by_place (yes a) b = rw (lt-ltb x 65 a) (sym (number_no _ _ _ (within_below 65 90 x a)))
+    by_place (no a) (yes b) = rw (le-ltb x 65 (omega arith), lt-ltb x 91 b) (sym (number_yes _ _ _ (within_yes 65 90 x (omega arith) (omega arith))))
+    by_place (no a) (no b) = rw (le-ltb x 65 (omega arith), le-ltb x 91 (omega arith)) (sym (number_no _ _ _ (within_above 65 90 x (omega arith))))
+
+lowers_are : (s : List ℕ) → map to_ascii_lowercase s ≡ map lower s
+lowers_are [] = refl
+lowers_are (x ∷ s) = ap₂ (λ (y : ℕ) (ys : List ℕ). y ∷ ys) (lower_is x) (lowers_are s)
+
+equal_same : (b : Bool) (s e : List ℕ) → (IsTrue b ↔ (s ≡ e)) → b ≡ same s e
+equal_same true s e h = sym (ap (same s) (sym (h.0 refl)) ∙ same_itself s)
+equal_same false s e h =
+    either (same s e) (λ y. absurd (false_true (h.1 (same_equal s e (true_passes (same s e) y))))) (λ n. sym n)
+
+-- the tail, as the part of the text from `at` on
+module _ (e s : List ℕ) (low : map lower e ≡ e) (fits : length e ≤ length s) where
+  abbrev At : ℕ
+  At = length s - length e
+
+  pub ends_ignoring : (b : Bool) → (IsTrue b ↔ (map to_ascii_lowercase (take (length s - At) (drop At s)) ≡ map to_ascii_lowercase e)) → b ≡ ends_in e s
+  unfolding ends_in
+  ends_ignoring b h =
+      let whole = take_all (length s - At) (drop At s) (omega (arith, length-drop At s)) in
+      let tail = ap (map to_ascii_lowercase) whole ∙ lowers_are (drop At s) in
+      equal_same b (map lower (drop At s)) e ((λ y. sym tail ∙ h.0 y ∙ lowers_are e ∙ low), (λ y. h.1 (tail ∙ y ∙ sym (lowers_are e ∙ low))))
+
 -- the rest of a text's tail is the rest of an ending
 abbrev pub tail_is : List ℕ → List ℕ → ℕ → ℕ → Bool
 tail_is e s at i = same (map lower (drop (at + i) s)) (drop i e)
@@ -122,15 +160,8 @@ module _ (e s : List ℕ) (at i : ℕ) (h : i < length e) (k : at + i < length s
       ap₂ (λ (x y : List ℕ). same (map lower x) y) (drop-cons s (at + i) 0 k) (drop-cons e i 0 h)
       ∙ ap₂ (λ (m n : ℕ). eqb (lower (get_or s (at + i) 0)) (get_or e i 0) && same (map lower (drop m s)) (drop n e)) (let z : suc (at + i) ≡ at + (i + 1) = omega arith in z) (sym (add-one i))
 
-  pub ends_differ : (lower (get_or s (at + i) 0) ≡ get_or e i 0 → ⊥) → tail_is e s at i ≡ false
+  ends_differ : (lower (get_or s (at + i) 0) ≡ get_or e i 0 → ⊥) → tail_is e s at i ≡ false
   ends_differ f = ends_step ∙ and_no _ _ (ne_eqb _ _ f)
-
-  pub ends_agree : lower (get_or s (at + i) 0) ≡ get_or e i 0 → tail_is e s at i ≡ tail_is e s at (i + 1)
-  ends_agree f = ends_step ∙ and_yes _ _ (eq-eqb _ _ f)
-
-pub ends_end : (e s : List ℕ) (at i : ℕ) → length e ≤ i → length s ≤ at + i → tail_is e s at i ≡ true
-unfolding same
-ends_end e s at i h k = ap₂ (λ (x y : List ℕ). same (map lower x) y) (drop_of_length-le s k) (drop_of_length-le e h)
 
 -- a difference further on is one of the whole
 ends_later : (e s : List ℕ) (at i : ℕ) → i < length e → at + length e ≡ length s → tail_is e s at i ≡ false → tail_is e s at 0 ≡ false
@@ -218,9 +249,18 @@ none_lettered x (e ∷ es) h =
 pub stop_none : (x : ℕ) (s : List ℕ) → x ≡ lower (last_letter s) → Unlettered x stop_bytes → false ≡ ends_in_any stop_endings s
 stop_none x s h u = sym (stop_letter x s h ∙ ap (λ (es : List (List ℕ)). ends_in_any es s) (none_lettered x stop_bytes u))
 
-pub stop_empty : false ≡ ends_in_any stop_endings []
+-- a text with no last letter is empty, and has none
+some_at : (s : List ℕ) (i : ℕ) → i < length s → None' ≡ slice_get s i → ⊥
+some_at s i h e = let z : slice_get s i ≡ Some (get_or s i 0) = slice_get-get_or s i 0 h in cc
+
+pub stop_empty : (s : List ℕ) → None' ≡ slice_get s (length s - 1) → false ≡ ends_in_any stop_endings s
 unfolding ends_in same encode bytes_of
-stop_empty = refl
+stop_empty [] e = refl
+stop_empty (x ∷ s) e = absurd (some_at (x ∷ s) (length (x ∷ s) - 1) (omega arith) e)
+
+-- of any other the last letter is the one that can be read there
+pub last_read : (s : List ℕ) (x n : ℕ) → Some x ≡ slice_get s (length s - 1) → n ≡ lower x → n ≡ lower (last_letter s)
+last_read s x n e h = h ∙ ap lower (sym (get_or_from_slice_get s (length s - 1) x 0 (sym e)))
 
 -- once there is a tone, it stays one
 last_stays : (s : List ℕ) (o : Tone) → is_tone o ≡ true → is_tone (last_tone o (dropped_marks s)) ≡ true

@@ -1,17 +1,18 @@
-use mathlib.Core.Path.{◌≡◌, refl, sym, ap, ◌∙◌, subst}
+use mathlib.Core.Path.{◌≡◌, sym, ap, ◌∙◌, subst}
 use mathlib.Core.Bool.{true, false}
 use mathlib.Core.List.{List, [], ◌∷◌, ◌++◌, append_assoc, append-nil}
 use Prim.Native.Nat.{ℕ, ◌+◌, ◌-◌, ◌≤◌, ◌<◌}
-use lib.ListN.{length, drop, get_or, set, length-set}
+use lib.ListN.{length, drop, get_or, set}
 use Rattle.ji.specs.Written.{Written}
 use Rattle.ji.specs.Tone.{is_tone}
 use Rattle.ji.specs.Lomaji.Strip.{mark_tone, is_tone_mark, without_marks, dropped_marks, last_tone}
 use Rattle.ji.specs.declared.tone.Tone.{Tone}
 use Rattle.ji.specs.declared.tone.Tone.TheVariants.{None}
-use Rattle.ji.proofs.Writing.{written_none, written_one, written_rest, written_length}
+use Rattle.ji.proofs.Writing.{written_one, written_rest, written_length}
 use Rattle.ji.proofs.lomaji.strip.Laws.{mark_is, without_kept, without_dropped, marks_kept, marks_dropped, without_end, marks_end, last_none, last_more}
 use native.Mathlib.Omega.{arith}
 use Rattle.ji.proofs.lomaji.strip.drop_marks.Goals as goal
+use Rattle.ji.proofs.lomaji.strip.drop_marks.Goals.{then-is_tone, else-is_tone}
 
 module _ (s₀ s : List ℕ) (i n : ℕ) (last : Tone) (v : ((n ≤ i) × (w : List ℕ) × Written s₀ s n w × (w ++ without_marks (drop i s₀) ≡ without_marks s₀) × (last_tone last (dropped_marks (drop i s₀)) ≡ last_tone None (dropped_marks s₀)))) (h : i < length s) where
   shorter : i < length s₀
@@ -49,34 +50,14 @@ module _ (s₀ s : List ℕ) (i n : ℕ) (last : Tone) (v : ((n ≤ i) × (w : L
       ap (last_tone last) (sym (marks_kept s₀ i shorter no_tone)) ∙ v.4,
     )
 
-pub loop-i-init : goal.loop-i-init
-loop-i-init c = (omega arith, [], written_none c.args.s.now, refl, refl)
-
-pub offset_bounds-s-i : goal.offset_bounds-s-i
-offset_bounds-s-i c = omega (arith, written_length c.loop-i.invariant.2)
-
-pub overflow_add-i : goal.overflow_add-i
-overflow_add-i c = omega (arith, written_length c.loop-i.invariant.2)
-
-pub loop-i-preserved-then-is_tone : goal.loop-i-preserved-then-is_tone
-loop-i-preserved-then-is_tone c =
-    drops c.args.s.now c.loop-i.s c.loop-i.i c.loop-i.n c.loop-i.last c.loop-i.invariant c.loop-i-test.true _ c.mark_tone-tone.ensures (sym c.is_tone.ensures ∙ c.if-is_tone.true)
-
-pub bounds-s-n : goal.bounds-s-n
-bounds-s-n c = let v = c.loop-i.invariant.0 in omega arith
-
-pub overflow_add-n : goal.overflow_add-n
-overflow_add-n c = let v = c.loop-i.invariant.0 in omega arith
-
-pub overflow_add-i-else-is_tone : goal.overflow_add-i-else-is_tone
-overflow_add-i-else-is_tone c = omega (arith, written_length c.loop-i.invariant.2)
-
-pub loop-i-smaller : goal.loop-i-smaller
-loop-i-smaller c = simp length-set (omega arith)
-
 pub loop-i-preserved : goal.loop-i-preserved
 loop-i-preserved c =
-    keeps c.args.s.now c.loop-i.s c.loop-i.i c.loop-i.n c.loop-i.last c.loop-i.invariant c.loop-i-test.true _ c.mark_tone-tone.ensures (sym c.is_tone.ensures ∙ c.if-is_tone.false)
+    let v = c.loop-i.invariant in
+    let h : c.loop-i.i < length c.loop-i.s = omega (arith, written_length v.2) in
+    elim c.if-is_tone.branch [
+      | then-is_tone w ↦ rw (w.s-is, w.left-is, w.tone-is) (drops c.args.s.now c.loop-i.s c.loop-i.i c.loop-i.left c.loop-i.tone v h _ c.mark_tone-mark.ensures (sym c.is_tone.ensures ∙ w.if-is_tone.true))
+      | else-is_tone w ↦ rw (w.s-is, w.left-is, w.tone-is) (keeps c.args.s.now c.loop-i.s c.loop-i.i c.loop-i.left c.loop-i.tone v h _ c.mark_tone-mark.ensures (sym c.is_tone.ensures ∙ w.if-is_tone.false))
+    ]
 
 pub returns : goal.returns
 returns c =
@@ -84,5 +65,5 @@ returns c =
     let s₀ = c.args.s.now in
     let h : length s₀ ≤ c.loop-i.i = omega (arith, written_length v.2) in (
       rw (← v.3, without_end s₀ c.loop-i.i h, append-nil v.1) v.2,
-      sym (ap (last_tone c.loop-i.last) (marks_end s₀ c.loop-i.i h) ∙ last_none c.loop-i.last) ∙ v.4,
+      sym (ap (last_tone c.loop-i.tone) (marks_end s₀ c.loop-i.i h) ∙ last_none c.loop-i.tone) ∙ v.4,
     )

@@ -9,6 +9,6 @@ pub returns-then-ends_in_any : goal.returns-then-ends_in_any
 unfolding unmarked_tone
 returns-then-ends_in_any c = sym (ap (λ (b : Bool). pick_tone b T4 T1) (sym c.ends_in_any.ensures ∙ c.if-ends_in_any.true))
 
-pub returns : goal.returns
+pub returns-else-ends_in_any : goal.returns-else-ends_in_any
 unfolding unmarked_tone
-returns c = sym (ap (λ (b : Bool). pick_tone b T4 T1) (sym c.ends_in_any.ensures ∙ c.if-ends_in_any.false))
+returns-else-ends_in_any c = sym (ap (λ (b : Bool). pick_tone b T4 T1) (sym c.ends_in_any.ensures ∙ c.if-ends_in_any.false))
