@@ -67,9 +67,9 @@ unfoldable pub has_tone_letter : Table → List ℕ → Bool
 has_tone_letter t s = is_some (tone_letter (nfd t s))
 
 -- the pattern that the code found, and its place, as the place of the tone letter
-abbrev pub letter_found : Found (ℕ × ℕ) → Option ℕ
-letter_found (Some p) = some ((get_or patterns p.0 ([], 0)).1 + p.1)
-letter_found None = none
+abbrev pub occurrence_place_of : Found (ℕ × ℕ) → Option ℕ
+occurrence_place_of (Some p) = some ((get_or patterns p.0 ([], 0)).1 + p.1)
+occurrence_place_of None = none
 
 -- a place as the code has it
 abbrev pub place_of : Found CharLen → Option ℕ

@@ -24,6 +24,7 @@ pub struct StripResult {
 }
 
 // The tone of a mark, None of any other code point.
+#[tactic(auto, unfolding(crate::specs::Lomaji::Strip::mark_tone))]
 pub(crate) fn mark_tone(c: u16) -> Tone
     ensures { result ≡ mark_tone c }
 {
@@ -75,6 +76,7 @@ fn ends_in(ending: &[u8], s: &[u8]) -> bool
 }
 
 // Whether `s` has one of the seven endings of a stop. Its last byte tells which of them it might have.
+#[tactic(auto, unfolding(crate::specs::Text::lower))]
 fn ends_in_any(s: &[u8]) -> bool
     ensures { result ≡ ends_in_any stop_endings s.now }
 {
@@ -94,6 +96,7 @@ fn ends_in_any(s: &[u8]) -> bool
 }
 
 // The tone of a text without a mark, from its bytes.
+#[tactic(auto, unfolding(crate::specs::Lomaji::Strip::unmarked_tone))]
 pub fn unmarked_tone(s: &[u8]) -> Tone
     ensures { result ≡ unmarked_tone s.now }
 {

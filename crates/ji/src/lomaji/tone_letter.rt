@@ -3,7 +3,7 @@ ghost use Rattle.std.specs.Prelude.{◌≡◌, [], ◌∷◌, ◌*◌, ◌/◌, 
 ghost use Rattle.ucd.specs.Table.{listed};
 ghost use Rattle.ji.specs.Text.{points, point, lower};
 ghost use Rattle.ucd.specs.Unicode16.{unicode16};
-ghost use Rattle.ji.specs.Lomaji.ToneLetter.{patterns, matches, searched, tone_letter, letter_found, place_of, byte_place_of, is_some, letter_at, tone_letter_call, tone_letter_reply, has_tone_letter_call, has_tone_letter_reply};
+ghost use Rattle.ji.specs.Lomaji.ToneLetter.{patterns, matches, searched, tone_letter, occurrence_place_of, place_of, byte_place_of, is_some, letter_at, tone_letter_call, tone_letter_reply, has_tone_letter_call, has_tone_letter_reply};
 
 use crate::reply::Refusal;
 use crate::unicode::{ByteLen, CharLen};
@@ -66,6 +66,7 @@ const PATTERNS: usize = 9;
 const FIRST: [u16; PATTERNS] = [O, O, A, E, U, I, N, N, M];
 
 // The number of the letter at `i` with its case ignored, and 0 past the end, which no pattern has.
+#[tactic(auto, unfolding(crate::specs::Text::lower))]
 fn letter_at<L: Letter>(s: &[L], i: usize) -> u16
     ensures { result ≡ lower (get_or (map L.number s.now) i 0) }
 {
@@ -76,6 +77,7 @@ fn letter_at<L: Letter>(s: &[L], i: usize) -> u16
 }
 
 // The second letter of the first pattern, which is the tone letter.
+#[tactic(auto, unfolding(crate::specs::Unicode::listed))]
 fn is_a_or_e(x: u16) -> bool
     ensures { result ≡ listed (points "ae") x }
 {
@@ -83,6 +85,7 @@ fn is_a_or_e(x: u16) -> bool
 }
 
 // The third letter of the first pattern.
+#[tactic(auto, unfolding(crate::specs::Unicode::listed))]
 fn is_final(x: u16) -> bool
     ensures { result ≡ listed (points "ptkhmni") x }
 {
@@ -98,6 +101,7 @@ fn follows_o<L: Letter>(s: &[L], at: usize) -> bool
 }
 
 // Whether `x` is the small letter `small` with its case ignored.
+#[tactic(auto, unfolding(crate::specs::Text::lower))]
 fn is_letter(x: u16, small: u16) -> bool
     requires { (0x61 ≤ small) × (small ≤ 0x7A) }
     ensures { result ≡ eqb (lower x) small }
@@ -142,7 +146,7 @@ fn first_tried<L: Letter>(s: &[L]) -> usize
 fn search<L: Letter>(s: &[L]) -> Option<(usize, usize)>
     requires { length s.now < 2 ^ 63 }
     ensures inside { MatchOption result (Unit {0}) (λ p. (p.0 < 9) × (p.1 < length s.now)) }
-    ensures found { letter_found result ≡ tone_letter (map L.number s.now) }
+    ensures found { occurrence_place_of result ≡ tone_letter (map L.number s.now) }
 {
     let mut occurrence = None;
     'patterns: for k in first_tried(s)..PATTERNS {
@@ -173,6 +177,7 @@ pub fn ascii_tone_position(s: &[u8]) -> Option<ByteLen>
 }
 
 // The letters that are a pattern by themselves.
+#[tactic(auto, unfolding(crate::specs::Unicode::listed))]
 fn is_single(x: u16) -> bool
     ensures { result ≡ listed (points "oaeuinm") x }
 {

@@ -1,15 +1,16 @@
 -- Stripping, one code point at a time; the endings of a text; the tone without a mark.
-use mathlib.Core.Path.{◌≡◌, refl, sym, ap, ap₂, ◌∙◌, subst}
-use mathlib.Core.Bool.{Bool, true, false, ◌&&◌, ◌||◌}
+use mathlib.Core.Path.{◌≡◌, refl, sym, ap, ap₂, ◌∙◌}
+use mathlib.Core.Bool.{Bool, true, false, ◌||◌}
 use mathlib.Core.List.{List, [], ◌∷◌, map}
-use Prim.Native.Nat.{ℕ, zero, suc, ◌+◌, ◌-◌, ◌≤◌, ◌<◌}
+use Prim.Native.Nat.{ℕ, ◌+◌, ◌-◌, ◌≤◌, ◌<◌}
 use native.Mathlib.Omega.{arith}
 use native.Mathlib.Numerals.{add-one}
-use lib.Dec.{eqb, leb}
+use lib.Dec.{eqb}
 use native.Mathlib.Decide.{dec_lt}
-use borrow.Author.Tests.{ne_eqb, eqb-false, leb-true, leb-false, lt-ltb, le-ltb}
+use borrow.Author.Tests.{ne_eqb, eqb-false, lt-ltb, le-ltb}
 use lib.ListN.{length, take, drop, get_or, length-drop, drop_of_length-le}
 use lib.Seq.{drop-cons, take_all}
+use Rattle.std.proofs.lemmas.List.{length-map, get_or-map, get_or-drop}
 use Rattle.std.specs.Char.{to_ascii_lowercase}
 use Rattle.std.specs.Prelude.{IsTrue, ◌↔◌}
 use Rattle.ucd.proofs.Tests.{same_equal, same_itself, true_passes}
@@ -27,7 +28,7 @@ use Rattle.ji.specs.declared.tone.Tone.TheVariants.{None}
 use Rattle.std.specs.Prelude.{Some, None as None'}
 use Rattle.std.specs.List.{slice_get}
 use Rattle.std.proofs.lemmas.Option.{slice_get-get_or, get_or_from_slice_get}
-use Rattle.ji.proofs.Bools.{either, false_true, and_no, and_false, or_yes, or_no, or_false, text_yes, text_no, number_yes, number_no, within_yes, within_below, within_above}
+use Rattle.ji.proofs.Bools.{either, false_true, or_yes, or_no, or_false, text_yes, text_no, number_yes, number_no, within_yes, within_below, within_above}
 use Rattle.ji.proofs.Replies.{check_within_law}
 
 -- ── marks
@@ -97,17 +98,6 @@ unfolding last_tone
 last_more o m ms = refl
 
 -- ── the endings
-same_lengths : (s e : List ℕ) → length s < length e → same s e ≡ false
-unfolding same
-same_lengths [] [] h = absurd (omega arith)
-same_lengths [] (y ∷ e) h = refl
-same_lengths (x ∷ s) [] h = absurd (omega arith)
-same_lengths (x ∷ s) (y ∷ e) h = ap (λ (b : Bool). eqb x y && b) (same_lengths s e (omega arith)) ∙ and_false (eqb x y)
-
-map_length : (s : List ℕ) → length (map lower s) ≡ length s
-map_length [] = refl
-map_length (x ∷ s) = ap suc (map_length s)
-
 -- the library's test of two texts with the case ignored is ours, where one of them is in lower case
 lower_is : (x : ℕ) → to_ascii_lowercase x ≡ lower x
 unfolding lower
@@ -139,57 +129,38 @@ module _ (e s : List ℕ) (low : map lower e ≡ e) (fits : length e ≤ length 
       let tail = ap (map to_ascii_lowercase) whole ∙ lowers_are (drop At s) in
       equal_same b (map lower (drop At s)) e ((λ y. sym tail ∙ h.0 y ∙ lowers_are e ∙ low), (λ y. h.1 (tail ∙ y ∙ sym (lowers_are e ∙ low))))
 
--- the rest of a text's tail is the rest of an ending
-abbrev pub tail_is : List ℕ → List ℕ → ℕ → ℕ → Bool
-tail_is e s at i = same (map lower (drop (at + i) s)) (drop i e)
-
-pub ends_short : (e s : List ℕ) → length s < length e → false ≡ ends_in e s
-unfolding ends_in
-ends_short e s h =
-    let z : length s - length e ≡ 0 = omega arith in
-    sym (ap (λ (k : ℕ). same (map lower (drop k s)) e) z ∙ same_lengths (map lower s) e (omega (arith, map_length s)))
-
-pub ends_start : (e s : List ℕ) (at : ℕ) → at ≡ length s - length e → ends_in e s ≡ tail_is e s at 0
-unfolding ends_in
-ends_start e s at h = ap (λ (k : ℕ). same (map lower (drop k s)) e) (let z : length s - length e ≡ at + 0 = omega arith in z)
-
-module _ (e s : List ℕ) (at i : ℕ) (h : i < length e) (k : at + i < length s) where
-  ends_step : tail_is e s at i ≡ (eqb (lower (get_or s (at + i) 0)) (get_or e i 0) && tail_is e s at (i + 1))
-  unfolding same
-  ends_step =
-      ap₂ (λ (x y : List ℕ). same (map lower x) y) (drop-cons s (at + i) 0 k) (drop-cons e i 0 h)
-      ∙ ap₂ (λ (m n : ℕ). eqb (lower (get_or s (at + i) 0)) (get_or e i 0) && same (map lower (drop m s)) (drop n e)) (let z : suc (at + i) ≡ at + (i + 1) = omega arith in z) (sym (add-one i))
-
-  ends_differ : (lower (get_or s (at + i) 0) ≡ get_or e i 0 → ⊥) → tail_is e s at i ≡ false
-  ends_differ f = ends_step ∙ and_no _ _ (ne_eqb _ _ f)
-
--- a difference further on is one of the whole
-ends_later : (e s : List ℕ) (at i : ℕ) → i < length e → at + length e ≡ length s → tail_is e s at i ≡ false → tail_is e s at 0 ≡ false
-ends_later e s at zero h k f = f
-ends_later e s at (suc i) h k f =
-    let n : suc i ≡ i + 1 = sym (add-one i) in
-    let later : tail_is e s at (i + 1) ≡ false = subst (λ (j : ℕ). tail_is e s at j ≡ false) n f in
-    ends_later e s at i (omega arith) k
-    (ends_step e s at i (omega arith) (omega arith) ∙ ap (λ (b : Bool). eqb (lower (get_or s (at + i) 0)) (get_or e i 0) && b) later ∙ and_false (eqb (lower (get_or s (at + i) 0)) (get_or e i 0)))
-
 -- the last letter of a text
 abbrev pub last_letter : List ℕ → ℕ
 last_letter s = get_or s (length s - 1) 0
 
--- a text with another last letter, in lower case, than an ending has not that ending
-letter_differs : (e s : List ℕ) → 0 < length e → (lower (last_letter s) ≡ last_letter e → ⊥) → ends_in e s ≡ false
-letter_differs e s some f = by_length (leb (length e) (length s)) refl
-  where
-    by_length : (b : Bool) → leb (length e) (length s) ≡ b → ends_in e s ≡ false
-    by_length false n = sym (ends_short e s (leb-false (length e) (length s) n))
-    by_length true y =
-        let l : length e ≤ length s = leb-true (length e) (length s) y in
-        let at : ℕ = length s - length e in
-        let i : ℕ = length e - 1 in
-        let same_place : at + i ≡ length s - 1 = omega arith in
-        ends_start e s at refl
-        ∙ ends_later e s at i (omega arith) (omega arith)
-        (ends_differ e s at i (omega arith) (omega arith) (λ z. f (ap (λ (k : ℕ). lower (get_or s k 0)) (sym same_place) ∙ z)))
+-- a text that ends in an ending is as long, and has its last letter
+module _ (e s : List ℕ) (is : map lower (drop (length s - length e) s) ≡ e) where
+  abbrev From : ℕ
+  From = length s - length e
+
+  size : length s - From ≡ length e
+  size = sym (length-drop From s) ∙ sym (length-map (drop From s) lower) ∙ ap length is
+
+  same_letter : 0 < length e → lower (last_letter s) ≡ last_letter e
+  same_letter some =
+      let i = length e - 1 in
+      let inside : i < length (drop From s) = omega (arith, size, length-drop From s) in
+      let place : length s - 1 ≡ From + i = omega (arith, size) in
+      ap (λ (k : ℕ). lower (get_or s k 0)) place
+      ∙ ap lower (sym (get_or-drop From s i 0))
+      ∙ sym (get_or-map lower (drop From s) i 0 0 inside)
+      ∙ ap (λ (l : List ℕ). get_or l i 0) is
+
+module _ (e s : List ℕ) where
+  not_ending : (map lower (drop (length s - length e) s) ≡ e → ⊥) → ends_in e s ≡ false
+  unfolding ends_in
+  not_ending f = either (ends_in e s) (λ y. absurd (f (same_equal _ e (true_passes (ends_in e s) y)))) (λ n. n)
+
+  pub ends_short : length s < length e → false ≡ ends_in e s
+  ends_short h = sym (not_ending (λ is. omega (arith, size e s is)))
+
+  letter_differs : 0 < length e → (lower (last_letter s) ≡ last_letter e → ⊥) → ends_in e s ≡ false
+  letter_differs some f = not_ending (λ is. f (same_letter e s is some))
 
 -- ── the tone without a mark
 -- the seven endings as the code has them

@@ -41,26 +41,6 @@ of_nine P a b c d e f g h i (suc (suc (suc (suc (suc (suc (suc zero))))))) l = h
 of_nine P a b c d e f g h i (suc (suc (suc (suc (suc (suc (suc (suc zero)))))))) l = i
 of_nine P a b c d e f g h i (suc (suc (suc (suc (suc (suc (suc (suc (suc k))))))))) l = let no_way : ⊥ = omega arith in absurd no_way
 
--- what is none of the first eight of them is the ninth, in two steps: `omega` stops at more than six such cases
-past_four : (k : ℕ) → (k ≡ 0 → ⊥) → (k ≡ 1 → ⊥) → (k ≡ 2 → ⊥) → (k ≡ 3 → ⊥) → 4 ≤ k
-past_four k n0 n1 n2 n3 = omega arith
-
-past_eight : (k : ℕ) → 4 ≤ k → (k ≡ 4 → ⊥) → (k ≡ 5 → ⊥) → (k ≡ 6 → ⊥) → (k ≡ 7 → ⊥) → 8 ≤ k
-past_eight k h n4 n5 n6 n7 = omega arith
-
-below_nine : (k : ℕ) → k < 9 → 8 ≤ k → k ≡ 8
-below_nine k h l = omega arith
-
-pub ninth : (k : ℕ) → k < 9 → (k ≡ 0 → ⊥) → (k ≡ 1 → ⊥) → (k ≡ 2 → ⊥) → (k ≡ 3 → ⊥) → (k ≡ 4 → ⊥) → (k ≡ 5 → ⊥) → (k ≡ 6 → ⊥) → (k ≡ 7 → ⊥) → k ≡ 8
-ninth k h n0 n1 n2 n3 n4 n5 n6 n7 = below_nine k h (past_eight k (past_four k n0 n1 n2 n3) n4 n5 n6 n7)
-
--- only the first pattern has a tone letter that is not its first
-pub later_letter : (k : ℕ) → k < 9 → (k ≡ 0 → ⊥) → 0 ≡ (pattern k).1
-later_letter k h n =
-    of_nine (λ (j : ℕ). (j ≡ 0 → ⊥) → 0 ≡ (pattern j).1)
-    (λ z. absurd (z refl)) (λ z. refl) (λ z. refl) (λ z. refl) (λ z. refl) (λ z. refl) (λ z. refl) (λ z. refl) (λ z. refl)
-    k h n
-
 -- the letters that the patterns begin with
 abbrev First : ℕ → ℕ → Type 0
 First k x = (x ≡ point (get_or (pattern k).0 0 "")) × (0x61 ≤ x) × (x ≤ 0x7A)
@@ -93,14 +73,6 @@ listed_pair xs y x h k l u = by_first_law (ℕ_discrete x y)
     by_first_law : Dec (x ≡ y) → true ≡ listed xs x
     by_first_law (yes e) = listed_is xs y x h e
     by_first_law (no n) = let e : x ≡ y + 1 = omega arith in listed_is xs (y + 1) x k e
-
--- three
-pub listed_three : (xs : List ℕ) (y x : ℕ) → listed xs y ≡ true → listed xs (y + 1) ≡ true → listed xs (y + 2) ≡ true → y ≤ x → x < y + 3 → true ≡ listed xs x
-listed_three xs y x h k m l u = by_last (dec_le (y + 2) x)
-  where
-    by_last : Dec (y + 2 ≤ x) → true ≡ listed xs x
-    by_last (yes g) = let e : x ≡ y + 2 = omega arith in listed_is xs (y + 2) x m e
-    by_last (no g) = listed_pair xs y x h k l (omega arith)
 
 pub listed_one : (y x : ℕ) → listed (y ∷ []) x ≡ eqb y x
 unfolding listed
@@ -191,18 +163,11 @@ one_letter k s h n m =
     k h n m
 
 -- ── places of one pattern
-further_zero : (o : Option ℕ) → o ≡ further 0 o
-further_zero none = refl
-further_zero (some k) = let e : k ≡ 0 + k = omega arith in ap some e
-
 further_further : (m n : ℕ) (o : Option ℕ) → further m (further n o) ≡ further (m + n) o
 further_further m n none = refl
 further_further m n (some k) = let e : m + (n + k) ≡ m + n + k = omega arith in ap some e
 
 module _ (p : List String) (s : List ℕ) where
-  pub place_start : first_place p s ≡ further 0 (first_place p (drop 0 s))
-  place_start = further_zero (first_place p s)
-
   -- what the first place is, from a place inside the text on
   place_step : (at : ℕ) → at < length s → (b : Bool) → matches p (drop at s) ≡ b → first_place p (drop at s) ≡ pick_place b (some 0) (further 1 (first_place p (drop (suc at) s)))
   unfolding first_place

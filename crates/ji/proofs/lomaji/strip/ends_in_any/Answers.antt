@@ -1,40 +1,11 @@
 use mathlib.Core.Path.{refl, sym, ◌∙◌}
 use mathlib.Core.List.{[], ◌∷◌}
 use Rattle.ji.proofs.lomaji.strip.Laws.{stop_one, stop_none, stop_empty, last_read}
-use Rattle.ji.specs.Text.{lower}
 use Rattle.std.proofs.Common.{rules}
 use Rattle.ji.proofs.lomaji.strip.ends_in_any.Goals as goal
 
 pub returns-in_default : goal.returns-in_default
 returns-in_default c = stop_empty c.args.s.now c.in_default.ensures.value
-
-pub ends_in-requires : goal.ends_in-requires
-unfolding lower
-ends_in-requires c = refl
-
-pub ends_in-requires-in-112 : goal.ends_in-requires-in-112
-unfolding lower
-ends_in-requires-in-112 c = refl
-
-pub ends_in-requires-in-116 : goal.ends_in-requires-in-116
-unfolding lower
-ends_in-requires-in-116 c = refl
-
-pub ends_in-requires-in-107 : goal.ends_in-requires-in-107
-unfolding lower
-ends_in-requires-in-107 c = refl
-
-pub ends_in-requires-in-110 : goal.ends_in-requires-in-110
-unfolding lower
-ends_in-requires-in-110 c = refl
-
-pub ends_in-requires-in-191 : goal.ends_in-requires-in-191
-unfolding lower
-ends_in-requires-in-191 c = refl
-
-pub ends_in-requires-in-186 : goal.ends_in-requires-in-186
-unfolding lower
-ends_in-requires-in-186 c = refl
 
 pub returns-in-104 : goal.returns-in-104
 returns-in-104 c = c.ends_in.ensures ∙ stop_one 0x68 (0x68 ∷ []) _ refl (sym c.in-104.is ∙ last_read c.args.s.now _ _ c.in-Some.ensures.value c.lower_byte.ensures)

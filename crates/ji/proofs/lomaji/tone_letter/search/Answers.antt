@@ -3,7 +3,7 @@ use mathlib.Core.List.{map}
 use Prim.Native.Nat.{◌≤◌}
 use lib.ListN.{length}
 use Rattle.std.proofs.lemmas.List.{length-map}
-use Rattle.ji.specs.Lomaji.ToneLetter.{letter_found}
+use Rattle.ji.specs.Lomaji.ToneLetter.{occurrence_place_of}
 use Rattle.ji.proofs.lomaji.tone_letter.Laws.{pattern, first_letter, place_here, place_later, place_end, search_here, search_next, search_end}
 use native.Mathlib.Omega.{arith}
 use Rattle.ji.proofs.lomaji.tone_letter.search.Goals as goal
@@ -27,7 +27,7 @@ patterns-preserved g c =
 
 pub returns-after-patterns-clause-found : goal.returns-after-patterns-clause-found
 returns-after-patterns-clause-found g c =
-    ap letter_found c.patterns.invariant.0 ∙ sym (c.patterns.invariant.1 ∙ search_end (map g.L.Letter.number c.args.s.now) c.patterns.k c.patterns-test.false)
+    ap occurrence_place_of c.patterns.invariant.0 ∙ sym (c.patterns.invariant.1 ∙ search_end (map g.L.Letter.number c.args.s.now) c.patterns.k c.patterns-test.false)
 
 pub returns-then-stands_at-clause-found : goal.returns-then-stands_at-clause-found
 returns-then-stands_at-clause-found g c =
