@@ -1,7 +1,7 @@
 // The tone letter.
 ghost use Rattle.std.specs.Prelude.{◌≡◌, [], ◌∷◌, ◌*◌, ◌/◌, ◌^◌, ◌<◌, ◌≤◌, ℕ, map, eqb, length, drop, get_or, MatchOption};
 ghost use Rattle.ucd.specs.Table.{listed};
-ghost use Rattle.ji.specs.Text.{points, point, lower};
+ghost use Rattle.ji.specs.Text.{points, lower};
 ghost use Rattle.ucd.specs.Unicode16.{unicode16};
 ghost use Rattle.ji.specs.Lomaji.ToneLetter.{patterns, matches, searched, tone_letter, occurrence_place_of, place_of, byte_place_of, is_some, letter_at, tone_letter_call, tone_letter_reply, has_tone_letter_call, has_tone_letter_reply};
 
@@ -109,13 +109,12 @@ fn is_letter(x: u16, small: u16) -> bool
     x == small || x == small - 32
 }
 
-// Whether pattern `k`, whose first letter is `first`, stands at `at`. Its first letter decides for nearly every place, so no other is read before
-// that one fits.
-fn stands_at<L: Letter>(s: &[L], at: usize, k: usize, first: u16) -> bool
-    requires { (k < 9) × (at < length s.now) × (length s.now < 2 ^ 63) × (first ≡ point (get_or (get_or patterns k ([], 0)).0 0 "")) × (0x61 ≤ first) × (first ≤ 0x7A) }
+// Whether pattern `k` stands at `at`. Its first letter decides for nearly every place, so no other is read before that one fits.
+fn stands_at<L: Letter>(s: &[L], at: usize, k: usize) -> bool
+    requires { (k < 9) × (at < length s.now) × (length s.now < 2 ^ 63) }
     ensures { result ≡ matches (get_or patterns k ([], 0)).0 (drop at (map L.number s.now)) }
 {
-    is_letter(s[at].number(), first)
+    is_letter(s[at].number(), FIRST[k])
         && match k {
             0 => follows_o(s, at + 1),
             6 => letter_at(s, at + 1) == G,
@@ -151,7 +150,7 @@ fn search<L: Letter>(s: &[L]) -> Option<(usize, usize)>
     let mut occurrence = None;
     'patterns: for k in first_tried(s)..PATTERNS {
         for at in 0..s.len() {
-            if stands_at(s, at, k, FIRST[k]) {
+            if stands_at(s, at, k) {
                 occurrence = Some((k, at));
                 break 'patterns;
             }

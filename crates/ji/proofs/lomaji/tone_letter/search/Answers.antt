@@ -4,14 +4,9 @@ use Prim.Native.Nat.{◌≤◌}
 use lib.ListN.{length}
 use Rattle.std.proofs.lemmas.List.{length-map}
 use Rattle.ji.specs.Lomaji.ToneLetter.{occurrence_place_of}
-use Rattle.ji.proofs.lomaji.tone_letter.Laws.{pattern, first_letter, place_here, place_later, place_end, search_here, search_next, search_end}
+use Rattle.ji.proofs.lomaji.tone_letter.Laws.{pattern, place_here, place_later, place_end, search_here, search_next, search_end}
 use native.Mathlib.Omega.{arith}
 use Rattle.ji.proofs.lomaji.tone_letter.search.Goals as goal
-
-pub stands_at-requires : goal.stands_at-requires
-stands_at-requires g c =
-    let first = first_letter c.patterns.k c.patterns-test.true in
-    (c.patterns-test.true, c.loop-at-test.true, c.requires, first.0, first.1, first.2)
 
 pub loop-at-preserved : goal.loop-at-preserved
 loop-at-preserved g c =
