@@ -47,7 +47,7 @@ struct Dropped {
     tone: Tone,
 }
 
-// Drops the tone marks of `s`, in place.
+// Drops the tone marks of `s`, in place: the places are counted, since those that are read and written are of one slice.
 fn drop_marks(s: &mut [u16]) -> Dropped
     ensures { Written s.old s.new result.left.0 (without_marks s.old) × (result.tone ≡ last_tone Tone.None (dropped_marks s.old)) }
 {
