@@ -2,6 +2,8 @@
 use Rattle.std.specs.Prelude.{◌≡◌, Bool, true, false, not, ◌&&◌, List, [], ◌∷◌, ◌++◌, ℕ, zero, suc, ◌+◌, ◌-◌, ◌*◌, ◌/◌, ◌%◌, ◌<◌, leb, eqb, length, take, drop}
 use Rattle.std.proofs.Math.Option.{Option, none, some}
 use Prim.Native.String.{String}
+use Rattle.std.specs.Prelude.{Option as Found, Some, None}
+use Rattle.ji.specs.declared.utf8.Sequence.{Sequence}
 use Rattle.ucd.specs.Table.{pick_number, pick_text}
 use Rattle.ji.specs.Text.{points, within}
 
@@ -60,10 +62,16 @@ second_low a = pick_number (eqb a 0xE0) 0xA0 (pick_number (eqb a 0xF0) 0x90 0x80
 abbrev pub second_high : ℕ → ℕ
 second_high a = pick_number (eqb a 0xED) 0x9F (pick_number (eqb a 0xF4) 0x8F 0xBF)
 
--- what reading one sequence gives: its width, and its code point where it has one
-pub record ReadOf (s : List ℕ) (width point : ℕ) : Type 0 where
+-- the sequence that s begins with: its width and its code point
+pub record SequenceOf (s : List ℕ) (width point : ℕ) : Type 0 where
+  pub some : 0 < width
   pub wide : width ≡ width_at s
-  pub read : 0 < width → point ≡ point_at s
+  pub read : point ≡ point_at s
+
+-- what reading one sequence gives: nothing where it is ill formed
+abbrev pub ReadOf : List ℕ → Found Sequence → Type 0
+ReadOf s None = width_at s ≡ 0
+ReadOf s (Some sequence) = SequenceOf s sequence.width sequence.point
 
 abbrev pub more : ℕ → Option (List ℕ) → Option (List ℕ)
 more x none = none

@@ -109,18 +109,14 @@ pub(crate) fn decode(s: &[u8], decomposed: bool, out: &mut [u16]) -> Result<Char
             n = put(Spread::One(a as u16), out, n);
             i += 1;
         } else {
-            let sequence = utf8::read(s, i);
-            let width = sequence.width;
-            if width == 0 {
+            let Some(sequence) = utf8::read(s, i) else {
                 return Err(Refusal::IllFormed);
-            }
-            let point = sequence.point;
-            if ucd::is_member(point) {
-                n = put(spread_point(point as u16, decomposed), out, n);
-                i += width;
-            } else {
+            };
+            if !ucd::is_member(sequence.point) {
                 return Err(fault_at(s, i));
             }
+            n = put(spread_point(sequence.point as u16, decomposed), out, n);
+            i += sequence.width;
         }
     }
     Ok(CharLen(n))
@@ -187,17 +183,14 @@ fn count_points(s: &[u8]) -> Result<CharLen, Refusal>
             i += 1;
             n += 1;
         } else {
-            let sequence = utf8::read(s, i);
-            let width = sequence.width;
-            if width == 0 {
+            let Some(sequence) = utf8::read(s, i) else {
                 return Err(Refusal::IllFormed);
-            }
-            if ucd::is_member(sequence.point) {
-                i += width;
-                n += 1;
-            } else {
+            };
+            if !ucd::is_member(sequence.point) {
                 return Err(fault_at(s, i));
             }
+            i += sequence.width;
+            n += 1;
         }
     }
     Ok(CharLen(n))
@@ -283,18 +276,13 @@ pub fn last_start(text: &[u8]) -> ByteLen
 pub fn last_point(text: &[u8]) -> u16
     ensures { result ≡ last_point text.now }
 {
-    if text.len() == 0 {
+    if text.is_empty() {
         return 0;
     }
-    let sequence = utf8::read(text, utf8::last_start(text));
-    if sequence.width == 0 {
-        return 0;
+    match utf8::read(text, utf8::last_start(text)) {
+        Some(sequence) => u16::try_from(sequence.point).unwrap_or(0),
+        None => 0,
     }
-    let point = sequence.point;
-    if point <= 0xFFFF {
-        return point as u16;
-    }
-    0
 }
 
 // The full decomposition of the code points `s`, written to the front of `out`.

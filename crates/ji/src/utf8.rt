@@ -7,7 +7,7 @@ ghost use Rattle.ji.specs.Utf8.{is_start, last_start, second_low, second_high, R
 
 use crate::unicode::ByteLen;
 
-// A sequence of bytes: its width, 0 where it is ill formed, and its code point.
+// A well-formed sequence of bytes: its width and its code point.
 #[derive(Clone, Copy)]
 pub(crate) struct Sequence {
     pub width: usize,
@@ -18,169 +18,116 @@ pub(crate) struct Sequence {
 fn byte_at(s: &[u8], i: usize) -> u32
     ensures { (result ≡ get_or s.now i 0) × (result ≤ 255) }
 {
-    if i < s.len() { s[i] as u32 } else { 0 }
+    s.get(i).copied().unwrap_or(0) as u32
 }
 
-fn in_range(lo: u32, hi: u32, x: u32) -> bool
-    ensures { result ≡ within lo hi x }
+// Whether `b` may be a later byte of a sequence, where its first byte asks for no more.
+fn is_later(b: u32) -> bool
+    ensures { result ≡ within 0x80 0xBF b }
 {
-    if x < lo {
-        return false;
-    }
-    x <= hi
+    (0x80..=0xBF).contains(&b)
 }
 
 // Whether `b` may be the second byte behind `a`, in a sequence of three bytes or four.
 fn is_second(a: u32, b: u32) -> bool
     ensures { result ≡ within (second_low a) (second_high a) b }
 {
-    if a == 0xE0 {
-        return in_range(0xA0, 0xBF, b);
+    match a {
+        0xE0 => (0xA0..=0xBF).contains(&b),
+        0xED => (0x80..=0x9F).contains(&b),
+        0xF0 => (0x90..=0xBF).contains(&b),
+        0xF4 => (0x80..=0x8F).contains(&b),
+        _ => is_later(b),
     }
-    if a == 0xED {
-        return in_range(0x80, 0x9F, b);
-    }
-    if a == 0xF0 {
-        return in_range(0x90, 0xBF, b);
-    }
-    if a == 0xF4 {
-        return in_range(0x80, 0x8F, b);
-    }
-    in_range(0x80, 0xBF, b)
 }
 
-// Whether `b` and `c` may follow `a` in a sequence of three bytes.
-fn are_three(a: u32, b: u32, c: u32) -> bool
-    ensures { result ≡ (within (second_low a) (second_high a) b && within 0x80 0xBF c) }
-{
-    if is_second(a, b) {
-        return in_range(0x80, 0xBF, c);
-    }
-    false
-}
-
-// Whether `b`, `c` and `d` may follow `a` in a sequence of four bytes.
-fn are_four(a: u32, b: u32, c: u32, d: u32) -> bool
-    ensures { result ≡ (within (second_low a) (second_high a) b && (within 0x80 0xBF c && within 0x80 0xBF d)) }
-{
-    if is_second(a, b) {
-        if in_range(0x80, 0xBF, c) {
-            return in_range(0x80, 0xBF, d);
-        }
-        return false;
-    }
-    false
-}
-
-// What no row of Table 3-7 has.
-fn ill_formed() -> Sequence
-    ensures { result.width ≡ 0 }
-{
-    Sequence { width: 0, point: 0 }
-}
-
-fn read_two(s: &[u8], at: usize) -> Sequence
+fn read_two(s: &[u8], at: usize) -> Option<Sequence>
     requires { (at < length s.now) × (0xC2 ≤ get_or s.now at 0) × (get_or s.now at 0 ≤ 0xDF) }
-    ensures { ReadOf (drop at s.now) result.width result.point }
+    ensures { ReadOf (drop at s.now) result }
 {
     let a = byte_at(s, at);
     let b = byte_at(s, at + 1);
-    if in_range(0x80, 0xBF, b) {
-        return Sequence {
+    if is_later(b) {
+        return Some(Sequence {
             width: 2,
             point: a % 32 * 64 + b % 64,
-        };
+        });
     }
-    ill_formed()
+    None
 }
 
-fn read_three(s: &[u8], at: usize) -> Sequence
+fn read_three(s: &[u8], at: usize) -> Option<Sequence>
     requires { (at < length s.now) × (0xE0 ≤ get_or s.now at 0) × (get_or s.now at 0 ≤ 0xEF) }
-    ensures { ReadOf (drop at s.now) result.width result.point }
+    ensures { ReadOf (drop at s.now) result }
 {
     let a = byte_at(s, at);
     let b = byte_at(s, at + 1);
     let c = byte_at(s, at + 2);
-    if are_three(a, b, c) {
-        return Sequence {
+    if is_second(a, b) && is_later(c) {
+        return Some(Sequence {
             width: 3,
             point: a % 16 * 4096 + b % 64 * 64 + c % 64,
-        };
+        });
     }
-    ill_formed()
+    None
 }
 
-fn read_four(s: &[u8], at: usize) -> Sequence
+fn read_four(s: &[u8], at: usize) -> Option<Sequence>
     requires { (at < length s.now) × (0xF0 ≤ get_or s.now at 0) × (get_or s.now at 0 ≤ 0xF4) }
-    ensures { ReadOf (drop at s.now) result.width result.point }
+    ensures { ReadOf (drop at s.now) result }
 {
     let a = byte_at(s, at);
     let b = byte_at(s, at + 1);
     let c = byte_at(s, at + 2);
     let d = byte_at(s, at + 3);
-    if are_four(a, b, c, d) {
-        return Sequence {
+    if is_second(a, b) && is_later(c) && is_later(d) {
+        return Some(Sequence {
             width: 4,
             point: a % 8 * 262144 + b % 64 * 4096 + c % 64 * 64 + d % 64,
-        };
+        });
     }
-    ill_formed()
+    None
 }
 
-// The sequence that begins at `at`.
-pub(crate) fn read_at(s: &[u8], at: usize) -> Sequence
+// The sequence that begins at `at`, or `None` where the bytes there fit no row of Table 3-7.
+pub(crate) fn read_at(s: &[u8], at: usize) -> Option<Sequence>
     requires { at < length s.now }
-    ensures { ReadOf (drop at s.now) result.width result.point }
+    ensures { ReadOf (drop at s.now) result }
 {
     let a = byte_at(s, at);
-    if a <= 0x7F {
-        return Sequence { width: 1, point: a };
+    match a {
+        0x00..=0x7F => Some(Sequence { width: 1, point: a }),
+        0xC2..=0xDF => read_two(s, at),
+        0xE0..=0xEF => read_three(s, at),
+        0xF0..=0xF4 => read_four(s, at),
+        _ => None,
     }
-    if a < 0xC2 {
-        return ill_formed();
-    }
-    if a <= 0xDF {
-        return read_two(s, at);
-    }
-    if a <= 0xEF {
-        return read_three(s, at);
-    }
-    if a <= 0xF4 {
-        return read_four(s, at);
-    }
-    ill_formed()
 }
 
 // The same, small enough to be compiled into a caller's loop: a sequence of one byte or two is read in place.
-pub(crate) fn read(s: &[u8], at: usize) -> Sequence
+pub(crate) fn read(s: &[u8], at: usize) -> Option<Sequence>
     requires { at < length s.now }
-    ensures { ReadOf (drop at s.now) result.width result.point }
+    ensures { ReadOf (drop at s.now) result }
 {
     let a = byte_at(s, at);
-    if a <= 0x7F {
-        return Sequence { width: 1, point: a };
+    match a {
+        0x00..=0x7F => Some(Sequence { width: 1, point: a }),
+        0xC2..=0xDF => read_two(s, at),
+        _ => read_at(s, at),
     }
-    if 0xC2 <= a {
-        if a <= 0xDF {
-            return read_two(s, at);
-        }
-    }
-    read_at(s, at)
 }
 
-// Whether all of `s` from `at` on is well formed.
+// Whether all of `s` from `at` on is well formed. Each turn steps by the width of a sequence, so that no `for` fits.
 pub(crate) fn well_formed(s: &[u8], at: usize) -> bool
     requires { at ≤ length s.now }
     ensures { result ≡ is_decoded (decode (drop at s.now)) }
 {
     let mut i = at;
     while i < s.len() {
-        let sequence = read_at(s, i);
-        let w = sequence.width;
-        if w == 0 {
+        let Some(sequence) = read_at(s, i) else {
             return false;
-        }
-        i += w;
+        };
+        i += sequence.width;
     }
     true
 }
@@ -210,11 +157,9 @@ pub(crate) fn encode(s: &[u16], out: &mut [u8]) -> ByteLen
     requires { length (encode s.now) ≤ length out.old }
     ensures { Written out.old out.new result.0 (encode s.now) }
 {
-    let mut i = 0;
     let mut n: usize = 0;
-    while i < s.len() {
-        n = put_point(s[i] as u32, out, n);
-        i += 1;
+    for &c in s {
+        n = put_point(c as u32, out, n);
     }
     ByteLen(n)
 }
@@ -223,13 +168,11 @@ pub(crate) fn encode(s: &[u16], out: &mut [u8]) -> ByteLen
 pub(crate) fn byte_count(x: u16) -> usize
     ensures { (result ≡ length (bytes_of x)) × (result ≤ 3) }
 {
-    if x <= 0x7F {
-        return 1;
+    match x {
+        0x0000..=0x007F => 1,
+        0x0080..=0x07FF => 2,
+        _ => 3,
     }
-    if x <= 0x7FF {
-        return 2;
-    }
-    3
 }
 
 // How many bytes the code points `s` take.
@@ -238,10 +181,8 @@ pub(crate) fn encoded_len(s: &[u16]) -> ByteLen
     ensures { result.0 ≡ length (encode s.now) }
 {
     let mut n: usize = 0;
-    let mut i: usize = 0;
-    while i < s.len() {
-        n += byte_count(s[i]);
-        i += 1;
+    for &c in s {
+        n += byte_count(c);
     }
     ByteLen(n)
 }
@@ -252,14 +193,12 @@ pub(crate) fn fits(s: &[u16], room: usize) -> bool
     ensures { result ≡ leb (length (encode s.now)) room }
 {
     let mut left = room;
-    let mut i: usize = 0;
-    while i < s.len() {
-        let size = byte_count(s[i]);
+    for &c in s {
+        let size = byte_count(c);
         if left < size {
             return false;
         }
         left -= size;
-        i += 1;
     }
     true
 }
@@ -268,22 +207,12 @@ pub(crate) fn fits(s: &[u16], room: usize) -> bool
 fn is_start(b: u8) -> bool
     ensures { result ≡ is_start b }
 {
-    if b < 0x80 {
-        return true;
-    }
-    0xBF < b
+    b < 0x80 || 0xBF < b
 }
 
 // Where the last sequence of `s` begins.
 pub(crate) fn last_start(s: &[u8]) -> usize
     ensures { (result ≡ last_start s.now) × (result ≤ length s.now) × (0 < length s.now → result < length s.now) }
 {
-    let mut i = s.len();
-    while 0 < i {
-        i -= 1;
-        if is_start(s[i]) {
-            return i;
-        }
-    }
-    0
+    s.iter().rposition(|&b| is_start(b)).unwrap_or(0)
 }

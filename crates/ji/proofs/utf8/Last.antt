@@ -3,29 +3,22 @@ use mathlib.Core.Path.{◌≡◌, refl, sym, ap, ap₂, ◌∙◌, subst}
 use mathlib.Core.Bool.{true, false, not}
 use mathlib.Core.List.{List, [], ◌∷◌, ◌++◌, append-nil}
 use mathlib.Core.Option.{some, none-ne-some}
-use Prim.Native.Nat.{ℕ, suc, ◌+◌, ◌-◌, ◌/◌, ◌%◌, ◌≤◌, ◌<◌}
+use Prim.Native.Nat.{ℕ, zero, suc, ◌+◌, ◌-◌, ◌/◌, ◌%◌, ◌≤◌, ◌<◌}
 use native.Mathlib.Omega.{arith}
 use native.Mathlib.Decide.{dec_le}
-use borrow.Author.Tests.{eq-eqb, ne_eqb, lt-ltb, le-ltb, le-leb, lt-leb}
-use lib.Dec.{leb, ltb}
+use borrow.Author.Tests.{eq-eqb, ne_eqb, le-leb, lt-leb}
+use lib.Dec.{leb}
 use lib.ListN.{length, take, drop, get_or, drop_of_length-le, take-append-drop}
-use lib.Seq.{append_snoc, take-suc, take_at, drop_at, drop-cons}
+use lib.Seq.{append_snoc, take-suc, take_at, drop_at, drop-cons, take-length, length-take-le}
+use Rattle.std.specs.Prelude.{Option as Found, Some, None, MatchOption, unwrap_or}
 use Rattle.ucd.specs.Table.{pick_number, All}
 use Rattle.ji.specs.Text.{last, but_last}
-use Rattle.ji.specs.Utf8.{width_at, point_at, decode_from, decode, ReadOf, bytes_of, encode, is_start, last_start_from, last_start, last_point}
+use Rattle.ji.specs.Utf8.{width_at, point_at, decode_from, decode, SequenceOf, bytes_of, encode, is_start, last_start_from, last_start, last_point}
 use Rattle.ji.proofs.Bools.{number_yes, number_no, within_yes, within_below, within_above}
 use Rattle.ji.proofs.utf8.Decoding.{decode_at_ill, decode_step, more_some}
 use Rattle.ji.proofs.utf8.Encoding.{bytes_one, bytes_two, bytes_three, bytes_four, encode_nil, encode_cons, encode_append}
 use Rattle.ji.proofs.utf8.OneToOne.{bytes_some}
 use Rattle.ji.proofs.utf8.RoundTrip.{decode_bytes}
-
--- a byte that is not below 80 begins a sequence if it lies above BF
-pub start_above : (b : ℕ) → 0x80 ≤ b → ltb 0xBF b ≡ is_start b
-start_above b h = by_last (dec_le b 0xBF)
-  where
-    by_last : Dec (b ≤ 0xBF) → ltb 0xBF b ≡ is_start b
-    by_last (yes k) = le-ltb 0xBF b k ∙ sym (ap not (within_yes 0x80 0xBF b h k))
-    by_last (no k) = let l : 0xBF < b = omega arith in lt-ltb 0xBF b l ∙ sym (ap not (within_above 0x80 0xBF b l))
 
 -- ── one byte more
 snoc_from : (found at : ℕ) (s : List ℕ) (x : ℕ) → last_start_from found at (s ++ (x ∷ [])) ≡ pick_number (is_start x) (at + length s) (last_start_from found at s)
@@ -60,6 +53,30 @@ module _ (s : List ℕ) (i : ℕ) (h : i < length s) where
 
   pub start_before : is_start (get_or s i 0) ≡ false → last_start (take (i + 1) s) ≡ last_start (take i s)
   start_before e = ap last_start one_more ∙ snoc_more (take i s) (get_or s i 0) e
+
+-- bytes that begin no sequence do not move it
+unmoved : (s : List ℕ) (i d : ℕ) → i + d ≤ length s → ((k : ℕ) → i ≤ k → k < length s → is_start (get_or s k 0) ≡ false) → last_start (take (i + d) s) ≡ last_start (take i s)
+unmoved s i zero h none = let e : i + 0 ≡ i = omega arith in ap (λ (n : ℕ). last_start (take n s)) e
+unmoved s i (suc d) h none =
+    let e : i + suc d ≡ i + d + 1 = omega arith in
+    ap (λ (n : ℕ). last_start (take n s)) e ∙ start_before s (i + d) (omega arith) (none (i + d) (omega arith) (omega arith)) ∙ unmoved s i d (omega arith) none
+
+to_end : (s : List ℕ) (i : ℕ) → i ≤ length s → ((k : ℕ) → i ≤ k → k < length s → is_start (get_or s k 0) ≡ false) → last_start s ≡ last_start (take i s)
+to_end s i h none =
+    let e : length s ≡ i + (length s - i) = omega arith in
+    ap last_start (sym (take-length s)) ∙ ap (λ (n : ℕ). last_start (take n s)) e ∙ unmoved s i (length s - i) (omega arith) none
+
+-- the last byte that begins a sequence, if there is one
+pub start_found : (s : List ℕ) (found : Found ℕ)
+    → MatchOption found ((k : ℕ) → k < length s → is_start (get_or s k 0) ≡ false)
+    (λ i. (i < length s) × (is_start (get_or s i 0) ≡ true) × ((k : ℕ) → i < k → k < length s → is_start (get_or s k 0) ≡ false))
+    → (unwrap_or found 0 ≡ last_start s) × (unwrap_or found 0 ≤ length s) × (0 < length s → unwrap_or found 0 < length s)
+start_found s None none = (sym (to_end s 0 (omega arith) (λ k l h. none k h) ∙ start_none s), omega arith, λ h. h)
+start_found s (Some i) (h, e, none) = (
+  sym (to_end s (i + 1) (omega arith) (λ k l m. none k (omega arith) m) ∙ start_here s i h e ∙ length-take-le i s (omega arith)),
+  omega arith,
+  λ z. h,
+)
 
 -- ── the bytes of a code point behind others
 low_start : (b : ℕ) → b ≤ 0x7F → is_start b ≡ true
@@ -184,27 +201,26 @@ unfolding last_point last_start last_start_from width_at
 point_none [] h = refl
 point_none (x ∷ s) h = absurd (omega arith)
 
-module _ (s : List ℕ) (at w p : ℕ) (e : at ≡ last_start s) (r : ReadOf (drop at s) w p) where
+pub point_ill : (s : List ℕ) (at : ℕ) → at ≡ last_start s → width_at (drop at s) ≡ 0 → 0 ≡ last_point s
+unfolding last_point
+point_ill s at e h = sym (number_yes _ _ _ (eq-eqb _ 0 (ap (λ (n : ℕ). width_at (drop n s)) (sym e) ∙ h)))
+
+module _ (s : List ℕ) (at w p : ℕ) (e : at ≡ last_start s) (r : SequenceOf (drop at s) w p) where
   wide : w ≡ width_at (drop (last_start s) s)
   wide = r.wide ∙ ap (λ (n : ℕ). width_at (drop n s)) e
 
-  pub point_ill : w ≡ 0 → 0 ≡ last_point s
+  point_is : p ≡ point_at (drop (last_start s) s)
+  point_is = r.read ∙ ap (λ (n : ℕ). point_at (drop n s)) e
+
+  from_width : last_point s ≡ pick_number (leb (point_at (drop (last_start s) s)) 0xFFFF) (point_at (drop (last_start s) s)) 0
   unfolding last_point
-  point_ill h = sym (number_yes _ _ _ (eq-eqb _ 0 (sym wide ∙ h)))
+  from_width = number_no _ _ _ (ne_eqb _ 0 (λ (z : width_at (drop (last_start s) s) ≡ 0). omega (arith, wide, r.some)))
 
-  module _ (h : w ≡ 0 → ⊥) where
-    point_is : p ≡ point_at (drop (last_start s) s)
-    point_is = let some : 0 < w = omega arith in r.read some ∙ ap (λ (n : ℕ). point_at (drop n s)) e
+  pub point_read : p ≤ 0xFFFF → p ≡ last_point s
+  point_read small = point_is ∙ sym (from_width ∙ number_yes _ _ _ (le-leb (point_at (drop (last_start s) s)) 0xFFFF (subst (λ (n : ℕ). n ≤ 0xFFFF) point_is small)))
 
-    from_width : last_point s ≡ pick_number (leb (point_at (drop (last_start s) s)) 0xFFFF) (point_at (drop (last_start s) s)) 0
-    unfolding last_point
-    from_width = number_no _ _ _ (ne_eqb _ 0 (λ z. h (wide ∙ z)))
-
-    pub point_read : p ≤ 0xFFFF → p ≡ last_point s
-    point_read small = point_is ∙ sym (from_width ∙ number_yes _ _ _ (le-leb (point_at (drop (last_start s) s)) 0xFFFF (subst (λ (n : ℕ). n ≤ 0xFFFF) point_is small)))
-
-    pub point_large : 0xFFFF < p → 0 ≡ last_point s
-    point_large large = sym (from_width ∙ number_no _ _ _ (lt-leb (point_at (drop (last_start s) s)) 0xFFFF (subst (λ (n : ℕ). 0xFFFF < n) point_is large)))
+  pub point_large : 0xFFFF < p → 0 ≡ last_point s
+  point_large large = sym (from_width ∙ number_no _ _ _ (lt-leb (point_at (drop (last_start s) s)) 0xFFFF (subst (λ (n : ℕ). 0xFFFF < n) point_is large)))
 
 pub point_bytes : (u : List ℕ) → All (λ x. x < 0xD800) u → last_point (encode u) ≡ last u
 unfolding last_point last

@@ -13,7 +13,7 @@ use lib.ListN.{length, take, drop, get_or}
 use lib.Seq.{drop-cons, drop-drop, get_or-drop}
 use Rattle.ucd.specs.Table.{pick_number}
 use Rattle.ji.specs.Text.{within}
-use Rattle.ji.specs.Utf8.{table37, fits_row, width_in, width_at, second_low, second_high, ReadOf, leading, trailing, point_at}
+use Rattle.ji.specs.Utf8.{table37, fits_row, width_in, width_at, second_low, second_high, SequenceOf, leading, trailing, point_at}
 use Rattle.ji.proofs.Bools.{either, and_true, and_no, and_yes, and_left, and_right, number_yes, number_no, within_yes, within_below, within_above, within_is}
 
 -- ── a sequence by its first byte
@@ -214,17 +214,17 @@ module _ (s : List ℕ) (at : ℕ) (h : at < length s) where
   fourth_byte : get_or (drop 1 (drop 1 rest)) 0 0 ≡ get_or s (at + 3) 0
   fourth_byte = rw (drop-drop, drop-drop, get_or-drop) (ap (λ (k : ℕ). get_or s k 0) (let e : suc at + 2 + 0 ≡ at + 3 = omega arith in e))
 
-  sized : (n x : ℕ) → width_at (a ∷ rest) ≡ n → (0 < n → x ≡ trailing (leading n a) (take (n - 1) rest)) → ReadOf (drop at s) n x
-  sized n x w p = record { wide = sym (ap width_at here ∙ w); read = λ k. p k ∙ sym (ap point_at here ∙ point_is a rest n w) }
+  sized : (n x : ℕ) → 0 < n → width_at (a ∷ rest) ≡ n → x ≡ trailing (leading n a) (take (n - 1) rest) → SequenceOf (drop at s) n x
+  sized n x k w p = record { some = k; wide = sym (ap width_at here ∙ w); read = p ∙ sym (ap point_at here ∙ point_is a rest n w) }
 
-  none_here : (x : ℕ) → width_at (a ∷ rest) ≡ 0 → ReadOf (drop at s) 0 x
-  none_here x w = sized 0 x w (λ k. absurd (omega arith))
+  none_here : width_at (a ∷ rest) ≡ 0 → width_at (drop at s) ≡ 0
+  none_here w = ap width_at here ∙ w
 
-  pub read_one : a ≤ 0x7F → ReadOf (drop at s) 1 a
-  read_one k = sized 1 a (width_one a rest (first a) k) (λ z. refl)
+  pub read_one : a ≤ 0x7F → SequenceOf (drop at s) 1 a
+  read_one k = sized 1 a (omega arith) (width_one a rest (first a) k) refl
 
-  pub read_none : (x : ℕ) → (a ≤ 0x7F → ⊥) → (0xC2 ≤ a → a ≤ 0xF4 → ⊥) → ReadOf (drop at s) 0 x
-  read_none x k l = none_here x (width_nothing a rest (first a) k l)
+  pub read_none : (a ≤ 0x7F → ⊥) → (0xC2 ≤ a → a ≤ 0xF4 → ⊥) → width_at (drop at s) ≡ 0
+  read_none k l = none_here (width_nothing a rest (first a) k l)
 
   module _ (b : ℕ) (eb : b ≡ get_or s (at + 1) 0) where
     b_is : get_or rest 0 0 ≡ b
@@ -234,13 +234,13 @@ module _ (s : List ℕ) (at : ℕ) (h : at < length s) where
       two_width : width_at (a ∷ rest) ≡ pick_number (within 0x80 0xBF b) 2 0
       two_width = width_two a rest (first a) lo hi ∙ ap (λ (x : ℕ). pick_number (within 0x80 0xBF x) 2 0) b_is
 
-      pub read_two : within 0x80 0xBF b ≡ true → ReadOf (drop at s) 2 (a % 32 * 64 + b % 64)
+      pub read_two : within 0x80 0xBF b ≡ true → SequenceOf (drop at s) 2 (a % 32 * 64 + b % 64)
       read_two e =
-          sized 2 _ (two_width ∙ number_yes _ _ _ e)
-          (λ k. let z : 0 < get_or rest 0 0 = omega (arith, b_is, within_is 0x80 0xBF b e) in rw (take_one rest z, b_is))
+          sized 2 _ (omega arith) (two_width ∙ number_yes _ _ _ e)
+          (let z : 0 < get_or rest 0 0 = omega (arith, b_is, within_is 0x80 0xBF b e) in rw (take_one rest z, b_is))
 
-      pub read_two_not : (x : ℕ) → within 0x80 0xBF b ≡ false → ReadOf (drop at s) 0 x
-      read_two_not x e = none_here x (two_width ∙ number_no _ _ _ e)
+      pub read_two_not : within 0x80 0xBF b ≡ false → width_at (drop at s) ≡ 0
+      read_two_not e = none_here (two_width ∙ number_no _ _ _ e)
 
     module _ (c : ℕ) (ec : c ≡ get_or s (at + 2) 0) where
       c_is : get_or (drop 1 rest) 0 0 ≡ c
@@ -250,16 +250,16 @@ module _ (s : List ℕ) (at : ℕ) (h : at < length s) where
         three_width : width_at (a ∷ rest) ≡ pick_number (within (second_low a) (second_high a) b && within 0x80 0xBF c) 3 0
         three_width = width_three a rest (first a) lo hi ∙ ap₂ (λ (x y : ℕ). pick_number (within (second_low a) (second_high a) x && within 0x80 0xBF y) 3 0) b_is c_is
 
-        pub read_three : (within (second_low a) (second_high a) b && within 0x80 0xBF c) ≡ true → ReadOf (drop at s) 3 (a % 16 * 4096 + b % 64 * 64 + c % 64)
+        pub read_three : (within (second_low a) (second_high a) b && within 0x80 0xBF c) ≡ true → SequenceOf (drop at s) 3 (a % 16 * 4096 + b % 64 * 64 + c % 64)
         read_three g =
             let e = and_left (within (second_low a) (second_high a) b) (within 0x80 0xBF c) g in
             let f = and_right (within (second_low a) (second_high a) b) (within 0x80 0xBF c) g in
             let z : 0 < get_or rest 0 0 = omega (arith, b_is, within_is (second_low a) (second_high a) b e, low_positive a) in
             let y : 0 < get_or (drop 1 rest) 0 0 = omega (arith, c_is, within_is 0x80 0xBF c f) in
-            sized 3 _ (three_width ∙ number_yes _ _ _ g) (λ k. rw (take_two rest z y, b_is, c_is) (omega arith))
+            sized 3 _ (omega arith) (three_width ∙ number_yes _ _ _ g) (rw (take_two rest z y, b_is, c_is) (omega arith))
 
-        pub read_three_not : (x : ℕ) → (within (second_low a) (second_high a) b && within 0x80 0xBF c) ≡ false → ReadOf (drop at s) 0 x
-        read_three_not x e = none_here x (three_width ∙ number_no _ _ _ e)
+        pub read_three_not : (within (second_low a) (second_high a) b && within 0x80 0xBF c) ≡ false → width_at (drop at s) ≡ 0
+        read_three_not e = none_here (three_width ∙ number_no _ _ _ e)
 
       module _ (d : ℕ) (ed : d ≡ get_or s (at + 3) 0) (lo : 0xF0 ≤ a) (hi : a ≤ 0xF4) where
         d_is : get_or (drop 1 (drop 1 rest)) 0 0 ≡ d
@@ -272,7 +272,7 @@ module _ (s : List ℕ) (at : ℕ) (h : at < length s) where
         four_width =
             width_four a rest (first a) lo hi ∙ rw (b_is, c_is, d_is)
 
-        pub read_four : others ≡ true → ReadOf (drop at s) 4 (a % 8 * 262144 + b % 64 * 4096 + c % 64 * 64 + d % 64)
+        pub read_four : others ≡ true → SequenceOf (drop at s) 4 (a % 8 * 262144 + b % 64 * 4096 + c % 64 * 64 + d % 64)
         read_four o =
             let e = and_left (within (second_low a) (second_high a) b) (within 0x80 0xBF c && within 0x80 0xBF d) o in
             let r = and_right (within (second_low a) (second_high a) b) (within 0x80 0xBF c && within 0x80 0xBF d) o in
@@ -281,7 +281,7 @@ module _ (s : List ℕ) (at : ℕ) (h : at < length s) where
             let z : 0 < get_or rest 0 0 = omega (arith, b_is, within_is (second_low a) (second_high a) b e, low_positive a) in
             let y : 0 < get_or (drop 1 rest) 0 0 = omega (arith, c_is, within_is 0x80 0xBF c f) in
             let x : 0 < get_or (drop 1 (drop 1 rest)) 0 0 = omega (arith, d_is, within_is 0x80 0xBF d g) in
-            sized 4 _ (four_width ∙ number_yes _ _ _ o) (λ k. rw (take_three rest z y x, b_is, c_is, d_is) (omega arith))
+            sized 4 _ (omega arith) (four_width ∙ number_yes _ _ _ o) (rw (take_three rest z y x, b_is, c_is, d_is) (omega arith))
 
-        pub read_four_not : (x : ℕ) → others ≡ false → ReadOf (drop at s) 0 x
-        read_four_not x e = none_here x (four_width ∙ number_no _ _ _ e)
+        pub read_four_not : others ≡ false → width_at (drop at s) ≡ 0
+        read_four_not e = none_here (four_width ∙ number_no _ _ _ e)

@@ -11,7 +11,7 @@ use lib.Dec.{eqb}
 use lib.ListN.{length, take, drop, get_or, take-append-drop}
 use Rattle.ucd.specs.Table.{pick_number, All}
 use Rattle.ji.specs.Text.{within}
-use Rattle.ji.specs.Utf8.{width_at, second_low, second_high, point_at, ReadOf, more, pick_decoded, decode_from, decode, bytes_of, encode}
+use Rattle.ji.specs.Utf8.{width_at, second_low, second_high, point_at, SequenceOf, more, pick_decoded, decode_from, decode, bytes_of, encode}
 use Rattle.ji.proofs.Bools.{either, and_yes, and_false, and_left, and_right, number_yes, number_no, within_yes, within_is, false_true}
 use Rattle.ji.proofs.utf8.Laws.{First, one, two, three, four, nothing, first, low_positive, read_one, read_two, read_two_not, read_three, read_three_not, read_four, read_four_not}
 use Rattle.ji.proofs.utf8.Decoding.{decode_step, drop_rest}
@@ -35,15 +35,15 @@ second_yes a b lo hi p q r u = within_yes (second_low a) (second_high a) b low h
         (either (eqb a 0xF4) (λ f. let h = u (eqb-true a 0xF4 f) in rw (number_yes (eqb a 0xF4) 0x8F 0xBF f) h) (λ f. rw (number_no (eqb a 0xF4) 0x8F 0xBF f) hi)))
 
 -- a sequence of known width and code point in front
-decode_front : (s : List ℕ) (w p : ℕ) → 0 < length s → 0 < w → ReadOf s w p → decode s ≡ more p (decode (drop w s))
-decode_front [] w p l h r = absurd (omega arith)
-decode_front (b ∷ s) w p l h r =
+decode_front : (s : List ℕ) (w p : ℕ) → 0 < length s → SequenceOf s w p → decode s ≡ more p (decode (drop w s))
+decode_front [] w p l r = absurd (omega arith)
+decode_front (b ∷ s) w p l r =
     let e : w ≡ width_at (b ∷ s) = r.wide in
-    decode_step b s (omega arith) ∙ ap₂ (λ (q n : ℕ). more q (decode (drop n (b ∷ s)))) (sym (r.read h)) (sym e)
+    decode_step b s (omega (arith, r.some)) ∙ ap₂ (λ (q n : ℕ). more q (decode (drop n (b ∷ s)))) (sym r.read) (sym e)
 
 module _ (x : ℕ) (s : List ℕ) (h : x < 0xD800) where
   as_one : x ≤ 0x7F → decode (bytes_of x ++ s) ≡ more x (decode s)
-  as_one k = rw (bytes_one x k) (decode_front (x ∷ s) 1 x (omega arith) (omega arith) (read_one (x ∷ s) 0 (omega arith) k))
+  as_one k = rw (bytes_one x k) (decode_front (x ∷ s) 1 x (omega arith) (read_one (x ∷ s) 0 (omega arith) k))
 
   as_two : 0x7F < x → x ≤ 0x7FF → decode (bytes_of x ++ s) ≡ more x (decode s)
   as_two k l =
@@ -51,7 +51,7 @@ module _ (x : ℕ) (s : List ℕ) (h : x < 0xD800) where
       let b : ℕ = 0x80 + x % 64 in
       let r = read_two (a ∷ b ∷ s) 0 (omega arith) b refl (omega arith) (omega arith) (within_yes 0x80 0xBF b (omega arith) (omega arith)) in
       let q : a % 32 * 64 + b % 64 ≡ x = omega arith in
-      rw (bytes_two x k l) (decode_front (a ∷ b ∷ s) 2 (a % 32 * 64 + b % 64) (omega arith) (omega arith) r ∙ ap (λ (p : ℕ). more p (decode s)) q)
+      rw (bytes_two x k l) (decode_front (a ∷ b ∷ s) 2 (a % 32 * 64 + b % 64) (omega arith) r ∙ ap (λ (p : ℕ). more p (decode s)) q)
 
   as_three : 0x7FF < x → decode (bytes_of x ++ s) ≡ more x (decode s)
   as_three k =
@@ -62,7 +62,7 @@ module _ (x : ℕ) (s : List ℕ) (h : x < 0xD800) where
       let f = within_yes 0x80 0xBF c (omega arith) (omega arith) in
       let r = read_three (a ∷ b ∷ c ∷ s) 0 (omega arith) b refl c refl (omega arith) (omega arith) (and_yes (within (second_low a) (second_high a) b) (within 0x80 0xBF c) e ∙ f) in
       let q : a % 16 * 4096 + b % 64 * 64 + c % 64 ≡ x = omega arith in
-      rw (bytes_three x k (omega arith)) (decode_front (a ∷ b ∷ c ∷ s) 3 (a % 16 * 4096 + b % 64 * 64 + c % 64) (omega arith) (omega arith) r ∙ ap (λ (p : ℕ). more p (decode s)) q)
+      rw (bytes_three x k (omega arith)) (decode_front (a ∷ b ∷ c ∷ s) 3 (a % 16 * 4096 + b % 64 * 64 + c % 64) (omega arith) r ∙ ap (λ (p : ℕ). more p (decode s)) q)
 
   by_size : Dec (x ≤ 0x7F) → Dec (x ≤ 0x7FF) → decode (bytes_of x ++ s) ≡ more x (decode s)
   by_size (yes k) q = as_one k
@@ -156,26 +156,26 @@ module _ (a : ℕ) (s : List ℕ) (pos : 0 < width_at (a ∷ s)) where
   abbrev Back : Type 0
   Back = bytes_of (point_at (a ∷ s)) ≡ take (width_at (a ∷ s)) (a ∷ s)
 
-  read_back : (n x : ℕ) → 0 < n → ReadOf (a ∷ s) n x → bytes_of x ≡ take n (a ∷ s) → Back
-  read_back n x k r e = ap bytes_of (sym (r.read k)) ∙ e ∙ ap (λ (m : ℕ). take m (a ∷ s)) r.wide
+  read_back : (n x : ℕ) → SequenceOf (a ∷ s) n x → bytes_of x ≡ take n (a ∷ s) → Back
+  read_back n x r e = ap bytes_of (sym r.read) ∙ e ∙ ap (λ (m : ℕ). take m (a ∷ s)) r.wide
 
-  none_back : (x : ℕ) → ReadOf (a ∷ s) 0 x → Back
-  none_back x r = let e : 0 ≡ width_at (a ∷ s) = r.wide in absurd (omega arith)
+  none_back : width_at (a ∷ s) ≡ 0 → Back
+  none_back e = absurd (omega arith)
 
   back_first : First a → Back
-  back_first (one h w) = read_back 1 a (omega arith) (read_one (a ∷ s) 0 (omega arith) h) (bytes_one a h)
+  back_first (one h w) = read_back 1 a (read_one (a ∷ s) 0 (omega arith) h) (bytes_one a h)
   back_first (two h l w) =
       either (within 0x80 0xBF (get_or s 0 0))
-      (λ e. read_back 2 _ (omega arith) (read_two (a ∷ s) 0 (omega arith) (get_or s 0 0) refl h l e) (back_two a s h l e))
-      (λ e. none_back 0 (read_two_not (a ∷ s) 0 (omega arith) (get_or s 0 0) refl h l 0 e))
+      (λ e. read_back 2 _ (read_two (a ∷ s) 0 (omega arith) (get_or s 0 0) refl h l e) (back_two a s h l e))
+      (λ e. none_back (read_two_not (a ∷ s) 0 (omega arith) (get_or s 0 0) refl h l e))
   back_first (three h l w) =
       either (within (second_low a) (second_high a) (get_or s 0 0) && within 0x80 0xBF (get_or s 1 0))
-      (λ e. read_back 3 _ (omega arith) (read_three (a ∷ s) 0 (omega arith) (get_or s 0 0) refl (get_or s 1 0) refl h l e) (back_three a s h l e))
-      (λ e. none_back 0 (read_three_not (a ∷ s) 0 (omega arith) (get_or s 0 0) refl (get_or s 1 0) refl h l 0 e))
+      (λ e. read_back 3 _ (read_three (a ∷ s) 0 (omega arith) (get_or s 0 0) refl (get_or s 1 0) refl h l e) (back_three a s h l e))
+      (λ e. none_back (read_three_not (a ∷ s) 0 (omega arith) (get_or s 0 0) refl (get_or s 1 0) refl h l e))
   back_first (four h l w) =
       either (fourth a (get_or s 0 0) (get_or s 1 0) (get_or s 2 0))
-      (λ e. read_back 4 _ (omega arith) (read_four (a ∷ s) 0 (omega arith) (get_or s 0 0) refl (get_or s 1 0) refl (get_or s 2 0) refl h l e) (back_four a s h l e))
-      (λ e. none_back 0 (read_four_not (a ∷ s) 0 (omega arith) (get_or s 0 0) refl (get_or s 1 0) refl (get_or s 2 0) refl h l 0 e))
+      (λ e. read_back 4 _ (read_four (a ∷ s) 0 (omega arith) (get_or s 0 0) refl (get_or s 1 0) refl (get_or s 2 0) refl h l e) (back_four a s h l e))
+      (λ e. none_back (read_four_not (a ∷ s) 0 (omega arith) (get_or s 0 0) refl (get_or s 1 0) refl (get_or s 2 0) refl h l e))
   back_first (nothing n w) = let e = w s in absurd (omega arith)
 
   pub bytes_back : Back

@@ -221,21 +221,12 @@ pub(crate) fn walk(s: &[u8], out: &mut [u8]) -> Option<(ByteLen, Tone)>
             p = push_ascii(a, out, p);
             i += 1;
         } else {
-            let sequence = utf8::read(s, i);
-            let width = sequence.width;
-            let point = sequence.point;
-            if width == 0 {
+            let sequence = utf8::read(s, i)?;
+            if out.len() < p.n + (s.len() - i) + 9 || !ucd::is_member(sequence.point) {
                 return None;
             }
-            if out.len() < p.n + (s.len() - i) + 9 {
-                return None;
-            }
-            if ucd::is_member(point) {
-                p = push_point(point as u16, out, p);
-                i += width;
-            } else {
-                return None;
-            }
+            p = push_point(sequence.point as u16, out, p);
+            i += sequence.width;
         }
     }
     if p.sorted {

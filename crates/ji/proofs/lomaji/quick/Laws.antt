@@ -15,7 +15,7 @@ use Rattle.ucd.proofs.Tests.{passes_true, both_left, both_right, same_equal}
 use Rattle.ucd.proofs.Lists.{each_class, class_passes}
 use Rattle.ucd.proofs.Unicode16.{low_atom, low_starter, full_itself, full_two}
 use Rattle.ji.specs.Written.{Written}
-use Rattle.ji.specs.Utf8.{width_at, point_at, ReadOf, bytes_of, encode}
+use Rattle.ji.specs.Utf8.{width_at, point_at, SequenceOf, bytes_of, encode}
 use Rattle.ji.specs.Tone.{is_tone}
 use Rattle.ji.specs.Nfd.{Reorderable, NoPair, Ordered, nfd}
 use Rattle.ji.specs.Lomaji.Strip.{mark_tone, is_tone_mark, without_marks, dropped_marks, last_tone}
@@ -237,16 +237,16 @@ module _ (s before : List ℕ) where
 
   module _ (out : List ℕ) (i : ℕ) (p : Progress) (r : Walking s before out i p) where
     -- a turn that reads a sequence of width w and code point x
-    pub walking_more : i < length s → (w x : ℕ) → ReadOf (drop i s) w x → 0 < w → member unicode16 x ≡ true
+    pub walking_more : i < length s → (w x : ℕ) → SequenceOf (drop i s) w x → member unicode16 x ≡ true
         → (q : Progress) (out' : List ℕ) → Further p q out out' (full unicode16 (x ∷ [])) → q.n + (length s - (i + w)) ≤ length before → Walking s before out' (i + w) q
-    walking_more h w x read some m q out' step room =
+    walking_more h w x read m q out' step room =
         let wide : w ≡ width_at (drop i s) = read.wide in
-        let point : x ≡ point_at (drop i s) = read.read some in
+        let point : x ≡ point_at (drop i s) = read.read in
         record {
           inside = omega (arith, width_within s i h);
           room = room;
           text = r.text ++ (x ∷ []);
-          taken = rw (point, wide) (taken_more unicode16 s r.text i r.taken h (omega arith) (ap (member unicode16) (sym point) ∙ m));
+          taken = rw (point, wide) (taken_more unicode16 s r.text i r.taken h (omega (arith, wide, read.some)) (ap (member unicode16) (sym point) ∙ m));
           stripping = rw (full_append unicode16 r.text (x ∷ [])) (step before (full unicode16 r.text) r.stripping);
         }
 

@@ -8,7 +8,7 @@ use lib.Seq.{paste}
 use Rattle.ucd.specs.Table.{member}
 use Rattle.ucd.specs.Unicode16.{unicode16}
 use Rattle.ucd.proofs.Unicode16.{member_below}
-use Rattle.ji.specs.Utf8.{width_at, point_at, ReadOf, decode}
+use Rattle.ji.specs.Utf8.{width_at, point_at, SequenceOf, decode}
 use Rattle.ji.specs.Unicode.{accepted, spread}
 use Rattle.ji.specs.Reading.{spread_text, fault_in, Reading}
 use Rattle.ji.specs.declared.unicode.Spread.{Spread}
@@ -24,15 +24,15 @@ use Rattle.ji.proofs.unicode.decode.Goals as goal
 use Rattle.std.specs.Prelude.{Err}
 
 -- a turn that reads a sequence of width w and code point p
-module _ (d : Bool) (s before out : List ℕ) (i n w p : ℕ) (r : Read unicode16 d s before out i n) (h : i < length s) (q : ReadOf (drop i s) w p) (some : w ≡ 0 → ⊥) where
+module _ (d : Bool) (s before out : List ℕ) (i n w p : ℕ) (r : Read unicode16 d s before out i n) (h : i < length s) (q : SequenceOf (drop i s) w p) where
   wide : w ≡ width_at (drop i s)
   wide = q.wide
 
   positive : 0 < width_at (drop i s)
-  positive = omega (arith, wide, some)
+  positive = omega (arith, wide, q.some)
 
   point : p ≡ point_at (drop i s)
-  point = q.read (omega (arith, some))
+  point = q.read
 
   step : w ≤ 4
   step = omega (arith, wide, width_most (drop i s))
@@ -66,55 +66,54 @@ module _ (d : Bool) (s before out : List ℕ) (i n w p : ℕ) (r : Read unicode1
 pub loop-i-init : goal.loop-i-init
 loop-i-init c = let a = c.args in read_start unicode16 a.decomposed a.s.now a.out.now
 
-pub returns-then-width-eq0 : goal.returns-then-width-eq0
-returns-then-width-eq0 c =
+pub returns-in_default : goal.returns-in_default
+returns-in_default c =
     let a = c.args in
-    read_ill unicode16 a.decomposed a.s.now a.out.now c.loop-i.out c.loop-i.i c.loop-i.n c.loop-i.invariant c.loop-i-test.true (sym c.read-sequence.ensures.wide ∙ c.if-width-eq0.true)
+    read_ill unicode16 a.decomposed a.s.now a.out.now c.loop-i.out c.loop-i.i c.loop-i.n c.loop-i.invariant c.loop-i-test.true c.in_default.ensures
 
-pub overflow_cast-point : goal.overflow_cast-point
-overflow_cast-point c =
+pub overflow_cast-sequence : goal.overflow_cast-sequence
+overflow_cast-sequence c =
     let x = c.args in
-    let k = low x.decomposed x.s.now x.out.now c.loop-i.out c.loop-i.i c.loop-i.n _ _ c.loop-i.invariant c.loop-i-test.true c.read-sequence.ensures c.if-width-eq0.false (sym c.if-is_member.true ∙ c.is_member.ensures) in
+    let k = low x.decomposed x.s.now x.out.now c.loop-i.out c.loop-i.i c.loop-i.n _ _ c.loop-i.invariant c.loop-i-test.true c.in-Some.ensures c.if-not-is_member.ensures in
     omega arith
 
 pub put-n-requires : goal.put-n-requires
 put-n-requires c =
     let x = c.args in
     let low = c.if-a-lt128.true in
-    room_left x.decomposed x.s.now x.out.now c.loop-i.out c.loop-i.i c.loop-i.n 1 (get_or x.s.now c.loop-i.i 0) c.loop-i.invariant c.loop-i-test.true (read_one x.s.now c.loop-i.i c.loop-i-test.true (omega arith)) (λ z. omega arith) (sym (ascii_member _ low)) (One (get_or x.s.now c.loop-i.i 0)) (sym (spread_itself x.decomposed _ (omega arith))) c.requires
+    room_left x.decomposed x.s.now x.out.now c.loop-i.out c.loop-i.i c.loop-i.n 1 (get_or x.s.now c.loop-i.i 0) c.loop-i.invariant c.loop-i-test.true (read_one x.s.now c.loop-i.i c.loop-i-test.true (omega arith)) (sym (ascii_member _ low)) (One (get_or x.s.now c.loop-i.i 0)) (sym (spread_itself x.decomposed _ (omega arith))) c.requires
 
 pub loop-i-preserved-then-a-lt128 : goal.loop-i-preserved-then-a-lt128
 loop-i-preserved-then-a-lt128 c =
     let x = c.args in
     let low = c.if-a-lt128.true in
-    again x.decomposed x.s.now x.out.now c.loop-i.out c.loop-i.i c.loop-i.n 1 (get_or x.s.now c.loop-i.i 0) c.loop-i.invariant c.loop-i-test.true (read_one x.s.now c.loop-i.i c.loop-i-test.true (omega arith)) (λ z. omega arith) (sym (ascii_member _ low)) (One (get_or x.s.now c.loop-i.i 0)) (sym (spread_itself x.decomposed _ (omega arith))) c.requires c.put-n.result c.put-n.new.out c.put-n.ensures.0 c.put-n.ensures.1
+    again x.decomposed x.s.now x.out.now c.loop-i.out c.loop-i.i c.loop-i.n 1 (get_or x.s.now c.loop-i.i 0) c.loop-i.invariant c.loop-i-test.true (read_one x.s.now c.loop-i.i c.loop-i-test.true (omega arith)) (sym (ascii_member _ low)) (One (get_or x.s.now c.loop-i.i 0)) (sym (spread_itself x.decomposed _ (omega arith))) c.requires c.put-n.result c.put-n.new.out c.put-n.ensures.0 c.put-n.ensures.1
 
-pub put-n-requires-then-is_member : goal.put-n-requires-then-is_member
-put-n-requires-then-is_member c =
+pub put-n-requires-else-a-lt128 : goal.put-n-requires-else-a-lt128
+put-n-requires-else-a-lt128 c =
     let x = c.args in
-    room_left x.decomposed x.s.now x.out.now c.loop-i.out c.loop-i.i c.loop-i.n _ _ c.loop-i.invariant c.loop-i-test.true c.read-sequence.ensures c.if-width-eq0.false (sym c.if-is_member.true ∙ c.is_member.ensures) c.spread_point.result c.spread_point.ensures c.requires
+    room_left x.decomposed x.s.now x.out.now c.loop-i.out c.loop-i.i c.loop-i.n _ _ c.loop-i.invariant c.loop-i-test.true c.in-Some.ensures c.if-not-is_member.ensures c.spread_point.result c.spread_point.ensures c.requires
 
-pub overflow_add-i-then-is_member : goal.overflow_add-i-then-is_member
-overflow_add-i-then-is_member c =
+pub overflow_add-i-else-a-lt128 : goal.overflow_add-i-else-a-lt128
+overflow_add-i-else-a-lt128 c =
     let x = c.args in
-    let k = step x.decomposed x.s.now x.out.now c.loop-i.out c.loop-i.i c.loop-i.n _ _ c.loop-i.invariant c.loop-i-test.true c.read-sequence.ensures c.if-width-eq0.false in
+    let k = step x.decomposed x.s.now x.out.now c.loop-i.out c.loop-i.i c.loop-i.n _ _ c.loop-i.invariant c.loop-i-test.true c.in-Some.ensures in
     omega arith
 
 pub loop-i-smaller : goal.loop-i-smaller
 loop-i-smaller c =
-    let k = c.if-width-eq0.false in
-    omega arith
+    omega (arith, c.in-Some.ensures.some)
 
 pub loop-i-preserved : goal.loop-i-preserved
 loop-i-preserved c =
     let x = c.args in
-    again x.decomposed x.s.now x.out.now c.loop-i.out c.loop-i.i c.loop-i.n _ _ c.loop-i.invariant c.loop-i-test.true c.read-sequence.ensures c.if-width-eq0.false (sym c.if-is_member.true ∙ c.is_member.ensures) c.spread_point.result c.spread_point.ensures c.requires c.put-n-then-is_member.result c.put-n-then-is_member.new.out c.put-n-then-is_member.ensures.0 c.put-n-then-is_member.ensures.1
+    again x.decomposed x.s.now x.out.now c.loop-i.out c.loop-i.i c.loop-i.n _ _ c.loop-i.invariant c.loop-i-test.true c.in-Some.ensures c.if-not-is_member.ensures c.spread_point.result c.spread_point.ensures c.requires c.put-n-else-a-lt128.result c.put-n-else-a-lt128.new.out c.put-n-else-a-lt128.ensures.0 c.put-n-else-a-lt128.ensures.1
 
-pub returns-else-is_member : goal.returns-else-is_member
-returns-else-is_member c =
+pub returns-then-not-is_member : goal.returns-then-not-is_member
+returns-then-not-is_member c =
     let x = c.args in
     rw c.fault_at.ensures
-    (returns_outside x.decomposed x.s.now x.out.now c.loop-i.out c.loop-i.i c.loop-i.n _ _ c.loop-i.invariant c.loop-i-test.true c.read-sequence.ensures c.if-width-eq0.false (sym c.if-is_member.false ∙ c.is_member.ensures))
+    (returns_outside x.decomposed x.s.now x.out.now c.loop-i.out c.loop-i.i c.loop-i.n _ _ c.loop-i.invariant c.loop-i-test.true c.in-Some.ensures c.if-not-is_member.ensures)
 
 pub returns : goal.returns
 returns c =

@@ -1,11 +1,8 @@
 use mathlib.Core.Path.{◌≡◌}
-use Prim.Native.Nat.{◌+◌, ◌-◌, ◌*◌, ◌≤◌}
+use Prim.Native.Nat.{◌+◌, ◌*◌, ◌≤◌}
 use lib.ListN.{length, drop}
 use Rattle.ji.specs.Utf8.{encode}
 use Rattle.ji.proofs.utf8.encoded_len.Given as goal
 
-abbrev pub invariant-loop-i : goal.invariant-loop-i
-invariant-loop-i l = (l.i ≤ length l.s) × (l.n ≤ 3 * l.i) × (l.n + length (encode (drop l.i l.s)) ≡ length (encode l.s))
-
-abbrev pub decreases-loop-i : goal.decreases-loop-i
-decreases-loop-i l = length l.s - l.i
+abbrev pub invariant-loop-c : goal.invariant-loop-c
+invariant-loop-c l = (l.n ≤ 3 * l.c-index) × (l.n + length (encode (drop l.c-index l.s)) ≡ length (encode l.s))

@@ -8,18 +8,18 @@ use Rattle.ji.proofs.utf8.fits.Goals as goal
 
 pub returns-then-left-size : goal.returns-then-left-size
 returns-then-left-size c =
-    let l = c.loop-i in
+    let l = c.loop-c in
     let a = c.args in
-    sym (lt-leb (length (encode a.s.now)) a.room (omega (arith, length_at a.s.now l.i (omega arith))))
+    sym (lt-leb (length (encode a.s.now)) a.room (omega (arith, length_at a.s.now l.c-index (omega arith))))
 
-pub loop-i-preserved : goal.loop-i-preserved
-loop-i-preserved c =
-    let l = c.loop-i in
+pub loop-c-preserved : goal.loop-c-preserved
+loop-c-preserved c =
+    let l = c.loop-c in
     let a = c.args in
-    omega (arith, length_at a.s.now l.i (omega arith))
+    omega (arith, length_at a.s.now l.c-index (omega arith))
 
 pub returns : goal.returns
 returns c =
-    let l = c.loop-i in
+    let l = c.loop-c in
     let a = c.args in
-    sym (le-leb (length (encode a.s.now)) a.room (omega (arith, length_end a.s.now l.i c.loop-i-test.false)))
+    sym (le-leb (length (encode a.s.now)) a.room (omega (arith, length_end a.s.now l.c-index (omega arith))))

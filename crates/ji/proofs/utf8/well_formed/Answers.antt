@@ -9,24 +9,24 @@ use Rattle.ji.proofs.utf8.well_formed.Goals as goal
 pub loop-i-init : goal.loop-i-init
 loop-i-init c = refl
 
-pub returns-then-w-eq0 : goal.returns-then-w-eq0
-returns-then-w-eq0 c =
+pub returns-in_default : goal.returns-in_default
+returns-in_default c =
     let l = c.loop-i in
     let a = c.args in
-    sym (l.invariant ∙ ap is_decoded (decode_at_ill a.s.now l.i c.loop-i-test.true (sym c.read_at-sequence.ensures.wide ∙ c.if-w-eq0.true)))
+    sym (l.invariant ∙ ap is_decoded (decode_at_ill a.s.now l.i c.loop-i-test.true c.in_default.ensures))
 
 pub overflow_add-i : goal.overflow_add-i
 overflow_add-i c =
     let l = c.loop-i in
     let a = c.args in
-    omega (arith, width_most (drop l.i a.s.now), c.read_at-sequence.ensures.wide)
+    omega (arith, width_most (drop l.i a.s.now), c.in-Some.ensures.wide)
 
 pub loop-i-preserved : goal.loop-i-preserved
 loop-i-preserved c =
     let l = c.loop-i in
     let a = c.args in
-    let e = c.read_at-sequence.ensures.wide in
-    let pos : 0 < width_at (drop l.i a.s.now) = omega arith in
+    let e = c.in-Some.ensures.wide in
+    let pos : 0 < width_at (drop l.i a.s.now) = omega (arith, e, c.in-Some.ensures.some) in
     l.invariant ∙ decoded_at a.s.now l.i c.loop-i-test.true pos ∙ ap (λ (w : ℕ). is_decoded (decode (drop (l.i + w) a.s.now))) (sym e)
 
 pub returns : goal.returns

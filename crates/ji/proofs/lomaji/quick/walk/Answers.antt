@@ -1,4 +1,4 @@
-use mathlib.Core.Path.{◌≡◌, sym, ◌∙◌, subst}
+use mathlib.Core.Path.{◌≡◌, sym, subst}
 use mathlib.Core.Bool.{true}
 use mathlib.Core.List.{List, [], ◌∷◌}
 use Prim.Native.Nat.{ℕ, ◌+◌, ◌-◌, ◌≤◌, ◌<◌}
@@ -8,7 +8,7 @@ use Rattle.ucd.specs.Table.{member}
 use Rattle.ucd.specs.Full.{full}
 use Rattle.ucd.specs.Unicode16.{unicode16}
 use Rattle.ucd.proofs.Unicode16.{member_below}
-use Rattle.ji.specs.Utf8.{ReadOf}
+use Rattle.ji.specs.Utf8.{SequenceOf}
 use Rattle.ji.specs.Lomaji.Quick.{Further}
 use Rattle.ji.specs.declared.lomaji.quick.Progress.{Progress}
 use Rattle.ji.proofs.Writing.{written_length}
@@ -26,16 +26,16 @@ module _ (s before out : List ℕ) (i : ℕ) (p : Progress) (r : Walking s befor
   -- a turn over an ASCII character
   ascii_again : get_or s i 0 < 0x80 → (q : Progress) (out' : List ℕ) → q.n ≤ p.n + 1 → Further p q out out' (get_or s i 0 ∷ []) → Walking s before out' (i + 1) q
   ascii_again k q out' few step =
-      walking_more s before out i p r h 1 (get_or s i 0) (read_one s i h (omega arith)) (omega arith) (ascii_member (get_or s i 0) k) q out'
+      walking_more s before out i p r h 1 (get_or s i 0) (read_one s i h (omega arith)) (ascii_member (get_or s i 0) k) q out'
       (further_same (sym (ascii_full (get_or s i 0) k)) step) (omega (arith, r.room))
 
   -- a turn over a sequence of width w and code point x
-  module _ (w x : ℕ) (read : ReadOf (drop i s) w x) (some : w ≡ 0 → ⊥) where
+  module _ (w x : ℕ) (read : SequenceOf (drop i s) w x) where
     ends : i + w ≤ length s
     ends = omega (arith, read.wide, width_within s i h)
 
     again : true ≡ member unicode16 x → p.n + (length s - i) + 9 ≤ length out → (q : Progress) (out' : List ℕ) → q.n ≤ p.n + 9 → Further p q out out' (full unicode16 (x ∷ [])) → Walking s before out' (i + w) q
-    again m fit q out' few step = walking_more s before out i p r h w x read (omega (arith, some)) (sym m) q out' step (omega (arith, out_length, ends))
+    again m fit q out' few step = walking_more s before out i p r h w x read (sym m) q out' step (omega (arith, out_length, ends))
 
 pub loop-i-init : goal.loop-i-init
 loop-i-init c = walking_start c.args.s.now c.args.out.now c.requires.0
@@ -54,22 +54,22 @@ overflow_add-p c = omega (arith, c.loop-i.invariant.room, c.requires.1)
 pub overflow_add-p-else-a-lt128 : goal.overflow_add-p-else-a-lt128
 overflow_add-p-else-a-lt128 c = omega (arith, c.loop-i.invariant.room, c.requires.1)
 
-pub overflow_cast-point : goal.overflow_cast-point
-overflow_cast-point c = let low = member_below _ (subst T (sym c.if-is_member.true ∙ c.is_member.ensures) tt) in omega arith
+pub overflow_cast-sequence : goal.overflow_cast-sequence
+overflow_cast-sequence c = let low = member_below _ (subst T c.if-not-is_member.ensures tt) in omega arith
 
 pub push_point-p-requires : goal.push_point-p-requires
 push_point-p-requires c = omega (arith, c.if-out-p.false)
 
-pub overflow_add-i-then-is_member : goal.overflow_add-i-then-is_member
-overflow_add-i-then-is_member c = omega (arith, ends c.args.s.now c.args.out.now c.loop-i.out c.loop-i.i c.loop-i.p c.loop-i.invariant c.loop-i-test.true _ _ c.read-sequence.ensures c.if-width-eq0.false)
+pub overflow_add-i-else-a-lt128 : goal.overflow_add-i-else-a-lt128
+overflow_add-i-else-a-lt128 c = omega (arith, ends c.args.s.now c.args.out.now c.loop-i.out c.loop-i.i c.loop-i.p c.loop-i.invariant c.loop-i-test.true _ _ c.in_ok-sequence.ensures)
 
 pub loop-i-smaller : goal.loop-i-smaller
-loop-i-smaller c = let k = c.if-width-eq0.false in omega arith
+loop-i-smaller c = omega (arith, c.in_ok-sequence.ensures.some)
 
 pub loop-i-preserved : goal.loop-i-preserved
 loop-i-preserved c =
     let w = c.push_point-p in
-    again c.args.s.now c.args.out.now c.loop-i.out c.loop-i.i c.loop-i.p c.loop-i.invariant c.loop-i-test.true _ _ c.read-sequence.ensures c.if-width-eq0.false (sym c.if-is_member.true ∙ c.is_member.ensures) c.if-out-p.false w.result _ w.ensures.0 w.ensures.1
+    again c.args.s.now c.args.out.now c.loop-i.out c.loop-i.i c.loop-i.p c.loop-i.invariant c.loop-i-test.true _ _ c.in_ok-sequence.ensures c.if-not-is_member.ensures c.if-out-p.false w.result _ w.ensures.0 w.ensures.1
 
 pub returns-then-p : goal.returns-then-p
 returns-then-p c = walking_end c.args.s.now c.args.out.now c.loop-i.out c.loop-i.i c.loop-i.p c.loop-i.invariant c.loop-i-test.false c.if-p.true c.mark_tone.result c.mark_tone.ensures
