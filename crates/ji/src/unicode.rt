@@ -17,11 +17,11 @@ use crate::{text, utf8};
 use ucd::Mapping;
 
 // A number of bytes.
-#[derive(Clone, Copy)]
+#[derive(Clone, Copy, PartialEq, Eq)]
 pub struct ByteLen(pub usize);
 
 // A number of code points.
-#[derive(Clone, Copy)]
+#[derive(Clone, Copy, PartialEq, Eq)]
 pub struct CharLen(pub usize);
 
 // What a code point becomes: itself, or its full decomposition, which has at most three.
@@ -47,17 +47,13 @@ fn spread_pair(a: u16, b: u16) -> Spread
 fn spread_point(c: u16, decomposed: bool) -> Spread
     ensures { spread_text result ≡ spread unicode16 decomposed (c ∷ []) }
 {
-    if c < 0x00C0 {
+    if c < 0x00C0 || !decomposed {
         return Spread::One(c);
     }
-    if decomposed {
-        match ucd::decomposition(c) {
-            Mapping::Itself => Spread::One(c),
-            Mapping::One(a) => Spread::One(a),
-            Mapping::Two(a, b) => spread_pair(a, b),
-        }
-    } else {
-        Spread::One(c)
+    match ucd::decomposition(c) {
+        Mapping::Itself => Spread::One(c),
+        Mapping::One(a) => Spread::One(a),
+        Mapping::Two(a, b) => spread_pair(a, b),
     }
 }
 
@@ -91,12 +87,14 @@ fn fault_at(s: &[u8], at: usize) -> Refusal
     ensures { result ≡ fault_in (decode (drop at s.now)) }
 {
     if utf8::well_formed(s, at) {
-        return Refusal::OutsideTable;
+        Refusal::OutsideTable
+    } else {
+        Refusal::IllFormed
     }
-    Refusal::IllFormed
 }
 
-// The code points of `s`, as they are or fully decomposed, written to the front of `out`.
+// The code points of `s`, as they are or fully decomposed, written to the front of `out`. Each turn steps by the width of a sequence, so that no
+// `for` fits.
 pub(crate) fn decode(s: &[u8], decomposed: bool, out: &mut [u16]) -> Result<CharLen, Refusal>
     requires { length (spread unicode16 decomposed (accepted unicode16 s.now)) ≤ length out.old }
     ensures { Reading unicode16 decomposed s.now out.old out.new result }
@@ -126,14 +124,7 @@ pub(crate) fn decode(s: &[u8], decomposed: bool, out: &mut [u16]) -> Result<Char
 pub fn is_ascii(s: &[u8]) -> bool
     ensures { result ≡ all_ascii s.now }
 {
-    let mut i: usize = 0;
-    while i < s.len() {
-        if 0x7F < s[i] {
-            return false;
-        }
-        i += 1;
-    }
-    true
+    s.is_ascii()
 }
 
 // Writes the bytes `s`, each as the code point that it is in ASCII, to the front of `out`, and returns their number.
@@ -141,12 +132,10 @@ fn widen(s: &[u8], out: &mut [u16]) -> usize
     requires { length s.now ≤ length out.old }
     ensures { Written out.old out.new result s.now }
 {
-    let mut i: usize = 0;
-    while i < s.len() {
-        out[i] = s[i] as u16;
-        i += 1;
+    for (i, &b) in s.iter().enumerate() {
+        out[i] = b as u16;
     }
-    i
+    s.len()
 }
 
 // The code points of `text`, as they are, read into a buffer of our own, which has three places for every two bytes. A text that is refused may leave
@@ -172,7 +161,7 @@ pub fn points(text: &[u8], out: &mut [u16]) -> Result<CharLen, Refusal>
     read_points(text, out)
 }
 
-// How many code points the bytes `s` have, or which of the two refusals they get.
+// How many code points the bytes `s` have, or which of the two refusals they get. Each turn steps by the width of a sequence, so that no `for` fits.
 fn count_points(s: &[u8]) -> Result<CharLen, Refusal>
     ensures { Counting unicode16 s.now result }
 {
@@ -290,11 +279,9 @@ pub(crate) fn decompose(s: &[u16], out: &mut [u16]) -> usize
     requires { 3 * length s.now ≤ length out.old }
     ensures { Written out.old out.new result (full unicode16 s.now) }
 {
-    let mut i: usize = 0;
     let mut n: usize = 0;
-    while i < s.len() {
-        n = put(spread_point(s[i], true), out, n);
-        i += 1;
+    for &c in s {
+        n = put(spread_point(c, true), out, n);
     }
     n
 }

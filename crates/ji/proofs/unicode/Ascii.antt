@@ -1,19 +1,21 @@
 -- ASCII texts: each code point is its own byte, and all are in the table.
-use mathlib.Core.Path.{◌≡◌, refl, ap₂, ◌∙◌, subst}
-use mathlib.Core.Bool.{true}
+use mathlib.Core.Path.{◌≡◌, refl, sym, ap₂, ◌∙◌, subst}
+use mathlib.Core.Bool.{Bool, true, false}
 use mathlib.Core.List.{List, [], ◌∷◌, ◌++◌}
 use Prim.Native.Nat.{ℕ, zero, suc, ◌≤◌, ◌<◌}
 use native.Mathlib.Omega.{arith}
 use borrow.Author.Tests.{le-leb, leb-true}
 use lib.Dec.{leb}
 use lib.ListN.{take, drop, get_or}
+use Rattle.std.specs.Prelude.{MatchBool}
+use Rattle.std.specs.Str.{IsAscii, IsNotAscii}
 use Rattle.ucd.specs.Table.{member, in_ranges}
 use Rattle.ucd.specs.Unicode16.{unicode16, ranges16}
 use Rattle.ji.specs.Text.{all_ascii}
 use Rattle.ji.specs.Utf8.{decode, encode}
 use Rattle.ji.specs.Unicode.{members}
 use Rattle.ji.specs.Reply.{good, check_points}
-use Rattle.ji.proofs.Bools.{and_yes, and_left, and_right, or_yes, within_yes}
+use Rattle.ji.proofs.Bools.{either, and_yes, and_left, and_right, or_yes, within_yes}
 use Rattle.ji.proofs.utf8.Encoding.{bytes_one, encode_nil, encode_cons}
 use Rattle.ji.proofs.unicode.Checked.{points_good}
 
@@ -37,6 +39,15 @@ pub ascii_at : (s : List ℕ) (k : ℕ) → all_ascii s ≡ true → get_or s k 
 ascii_at [] k h = omega arith
 ascii_at (x ∷ s) zero h = ascii_low x s h
 ascii_at (x ∷ s) (suc k) h = ascii_at s k (ascii_rest x s h)
+
+-- what the library tells of a text
+all_below : (s : List ℕ) → IsAscii s → all_ascii s ≡ true
+all_below [] h = ascii_nil
+all_below (x ∷ s) h = ascii_more x s (omega (arith, h 0)) (all_below s (λ k. h (suc k)))
+
+pub ascii_told : (s : List ℕ) (b : Bool) → MatchBool b (IsAscii s) (IsNotAscii s) → b ≡ all_ascii s
+ascii_told s true h = sym (all_below s h)
+ascii_told s false (k, high) = either (all_ascii s) (λ e. absurd (omega (arith, high, ascii_at s k e))) sym
 
 pub ascii_take : (n : ℕ) (s : List ℕ) → all_ascii s ≡ true → all_ascii (take n s) ≡ true
 ascii_take zero s h = ascii_nil

@@ -31,29 +31,29 @@ module _ (s : List ℕ) (i : ℕ) (h : i < length s) (x : Spread) (e : spread_te
   piece : full unicode16 (drop i s) ≡ spread_text x ++ full unicode16 (drop (i + 1) s)
   piece = ap (full unicode16) (drop_next s i h) ∙ full_append unicode16 (get_or s i 0 ∷ []) (drop (i + 1) s) ∙ ap (λ (u : List ℕ). u ++ full unicode16 (drop (i + 1) s)) (sym text)
 
-pub loop-i-init : goal.loop-i-init
-loop-i-init c = let a = c.args in (underway_start (full unicode16) a.s.now a.out.now, omega arith)
+pub loop-c-init : goal.loop-c-init
+loop-c-init c = let a = c.args in (underway_start (full unicode16) a.s.now a.out.now, omega arith)
 
 pub put-n-requires : goal.put-n-requires
 put-n-requires c =
-    let l = c.loop-i in
-    let h = few c.args.s.now l.i c.loop-i-test.true c.spread_point.result c.spread_point.ensures in
+    let l = c.loop-c in
+    let h = few c.args.s.now l.c-index (omega arith) c.spread_point.result c.spread_point.ensures in
     let w = written_length l.invariant.0.written in
     omega arith
 
-pub loop-i-preserved : goal.loop-i-preserved
-loop-i-preserved c =
-    let l = c.loop-i in
+pub loop-c-preserved : goal.loop-c-preserved
+loop-c-preserved c =
+    let l = c.loop-c in
     let a = c.args in
     let x = c.spread_point in
-    let more = c.loop-i-test.true in
-    let h = few a.s.now l.i more x.result x.ensures in
+    let more : l.c-index < length a.s.now = omega arith in
+    let h = few a.s.now l.c-index more x.result x.ensures in
     let q = c.put-n in (
-      rw (q.ensures.0, q.ensures.1) (underway_run l.invariant.0 (l.i + 1) (spread_text x.result) (piece a.s.now l.i more x.result x.ensures) (omega arith) (omega arith)),
+      rw (q.ensures.0, q.ensures.1) (underway_run l.invariant.0 (l.c-index + 1) (spread_text x.result) (piece a.s.now l.c-index more x.result x.ensures) (omega arith) (omega arith)),
       omega (arith, q.ensures.0),
     )
 
 pub returns : goal.returns
 returns c =
     let a = c.args in
-    underway_end c.loop-i.invariant.0 (ended a.s.now c.loop-i.i c.loop-i-test.false)
+    underway_end c.loop-c.invariant.0 (ended a.s.now c.loop-c.c-index (omega arith))
