@@ -3,6 +3,7 @@ use Rattle.std.specs.Prelude.{◌≡◌, List, ◌++◌, ◌⊎◌, ℕ, ◌+◌
 use Rattle.ucd.specs.Table.{All}
 use Rattle.ji.specs.Utf8.{bytes_of, encode}
 use Rattle.ji.specs.Lomaji.Quick.{IsLetter}
+use Rattle.ji.specs.declared.lomaji.quick.MarkedLetter.{MarkedLetter}
 
 -- a code point that stripping keeps as it is: ASCII, 0358 and 207F, of which syllables are made
 abbrev pub Kept : ℕ → Type 0
@@ -12,6 +13,6 @@ Kept x = (x ≤ 0x7F) ⊎ ((x ≡ 0x0358) ⊎ (x ≡ 0x207F))
 abbrev pub KeptTo : List ℕ → ℕ → ℕ → Type 0
 KeptTo s from to = (u : List ℕ) × All Kept u × (drop from s ≡ encode u ++ drop to s)
 
--- x is 0, or holds the two code points of the letter with a tone mark that stands at `at`, in two bytes
-abbrev pub MarkedAt : List ℕ → ℕ → ℕ → Type 0
-MarkedAt s at x = (x ≡ 0 → ⊥) → (at + 2 ≤ length s) × (c : ℕ) × (drop at s ≡ bytes_of c ++ drop (at + 2) s) × IsLetter c x
+-- the letter with a tone mark stands at `at`, in two bytes
+abbrev pub MarkedAt : List ℕ → ℕ → MarkedLetter → Type 0
+MarkedAt s at letter = (at + 2 ≤ length s) × (c : ℕ) × (drop at s ≡ bytes_of c ++ drop (at + 2) s) × IsLetter c letter

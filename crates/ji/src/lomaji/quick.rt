@@ -1,6 +1,6 @@
 // The quick way to strip a text: one walk from its bytes to the bytes of the stripped text. It gives up where the text is refused, where the marks
 // that are left have to be put in order, and where the buffer might be too short.
-ghost use Rattle.std.specs.Prelude.{◌≡◌, false, [], ◌∷◌, ℕ, ◌+◌, ◌≤◌, ◌<◌, length};
+ghost use Rattle.std.specs.Prelude.{◌≡◌, false, [], ◌∷◌, ℕ, ◌+◌, ◌≤◌, ◌<◌, length, IfSome};
 ghost use Rattle.ucd.specs.Table.{decomposition};
 ghost use Rattle.ucd.specs.Full.{full};
 ghost use Rattle.ucd.specs.Unicode16.{unicode16};
@@ -15,13 +15,13 @@ use crate::unicode::ByteLen;
 use crate::{nfd, utf8};
 use ucd::Mapping;
 
-// How many bytes are written, the last tone mark (0 before the first), the last code point that was written where that is a mark (0 where it is
-// none), and whether the marks that were written are in order.
+// How many bytes are written, the tone of the last tone mark, the last code point that was written where that is a mark, and whether the marks that
+// were written are in order.
 #[derive(Clone, Copy)]
 struct Progress {
     n: usize,
-    mark: u16,
-    behind: u16,
+    tone: Tone,
+    behind: Option<u16>,
     sorted: bool,
 }
 
@@ -30,62 +30,39 @@ fn push_ascii(x: u8, out: &mut [u8], p: Progress) -> Progress
     requires { (x < 0x80) × (p.n < length out.old) }
     ensures { (result.n ≤ p.n + 1) × Further p result out.old out.new (x ∷ []) }
 {
-    let n = p.n;
-    out[n] = x;
+    out[p.n] = x;
     Progress {
-        n: n + 1,
-        mark: p.mark,
-        behind: 0,
-        sorted: p.sorted,
+        n: p.n + 1,
+        behind: None,
+        ..p
     }
 }
 
 // Whether `x` might have to be moved before the mark `behind`. Most marks follow none.
-fn is_before(x: u16, behind: u16) -> bool
-    ensures { result ≡ false → Reorderable unicode16 behind x → ⊥ }
+fn is_before(x: u16, behind: Option<u16>) -> bool
+    ensures { result ≡ false → IfSome behind (λ mark. Reorderable unicode16 mark x → ⊥) }
 {
-    if behind < 0x0300 {
-        return false;
-    }
-    nfd::class_of(x) < nfd::class_of(behind)
+    behind.is_some_and(|mark| nfd::class_of(x) < nfd::class_of(mark))
 }
 
-// Takes a code point that is no tone mark.
+// Takes a code point that is no tone mark. All that have to be put in order lie between U+0300 and U+036F.
 fn push_kept(x: u16, out: &mut [u8], p: Progress) -> Progress
     requires { (is_tone_mark x ≡ false) × (p.n + 3 ≤ length out.old) }
     ensures { (result.n ≤ p.n + 3) × Further p result out.old out.new (x ∷ []) }
 {
-    let at = p.n;
-    let n = utf8::put_point(x as u32, out, at);
-    if x < 0x0300 {
-        return Progress {
-            n: n,
-            mark: p.mark,
-            behind: 0,
-            sorted: p.sorted,
-        };
-    }
-    if 0x036F < x {
-        return Progress {
-            n: n,
-            mark: p.mark,
-            behind: 0,
-            sorted: p.sorted,
-        };
-    }
-    if is_before(x, p.behind) {
-        return Progress {
-            n: n,
-            mark: p.mark,
-            behind: x,
-            sorted: false,
-        };
-    }
-    Progress {
-        n: n,
-        mark: p.mark,
-        behind: x,
-        sorted: p.sorted,
+    let n = utf8::put_point(x as u32, out, p.n);
+    match x {
+        0x0300..=0x036F => Progress {
+            n,
+            behind: Some(x),
+            sorted: p.sorted && !is_before(x, p.behind),
+            ..p
+        },
+        _ => Progress {
+            n,
+            behind: None,
+            ..p
+        },
     }
 }
 
@@ -94,13 +71,9 @@ fn push(x: u16, out: &mut [u8], p: Progress) -> Progress
     requires { p.n + 3 ≤ length out.old }
     ensures { (result.n ≤ p.n + 3) × Further p result out.old out.new (x ∷ []) }
 {
-    if mark_tone(x).is_tone() {
-        return Progress {
-            n: p.n,
-            mark: x,
-            behind: p.behind,
-            sorted: p.sorted,
-        };
+    let tone = mark_tone(x);
+    if tone.is_tone() {
+        return Progress { tone, ..p };
     }
     push_kept(x, out, p)
 }
@@ -123,53 +96,66 @@ fn push_first(a: u16, out: &mut [u8], p: Progress) -> Progress
     }
 }
 
-// A vowel with the mark of tone 2, 3 or 5: the vowel and the mark in one number, and 0 of any other code point. Texts hold few others that
-// decompose, and a dense `match` is the quickest lookup.
-fn low_letter(c: u16) -> u32
-    ensures { IsLetter c result }
-{
-    match c {
-        0x00E0 => 0x00610300, // à
-        0x00E1 => 0x00610301, // á
-        0x00E2 => 0x00610302, // â
-        0x00E8 => 0x00650300, // è
-        0x00E9 => 0x00650301, // é
-        0x00EA => 0x00650302, // ê
-        0x00EC => 0x00690300, // ì
-        0x00ED => 0x00690301, // í
-        0x00EE => 0x00690302, // î
-        0x00F2 => 0x006F0300, // ò
-        0x00F3 => 0x006F0301, // ó
-        0x00F4 => 0x006F0302, // ô
-        0x00F9 => 0x00750300, // ù
-        0x00FA => 0x00750301, // ú
-        0x00FB => 0x00750302, // û
-        _ => 0,
-    }
+// An ASCII letter with a tone mark.
+#[derive(Clone, Copy)]
+pub(crate) struct MarkedLetter {
+    pub ascii: u8,
+    pub mark: u16,
 }
 
-// The same of a vowel with the mark of tone 7.
-fn macron_letter(c: u16) -> u32
-    ensures { IsLetter c result }
+// A vowel with the mark of tone 2, 3 or 5. Texts hold few others that decompose. A `match` is compiled into a table where its patterns lie close
+// together: with those of tone 7, which lie apart, it would be one of jumps.
+fn low_letter(c: u16) -> Option<MarkedLetter>
+    ensures { IfSome result (IsLetter c) }
 {
-    match c {
-        0x0101 => 0x00610304, // ā
-        0x0113 => 0x00650304, // ē
-        0x012B => 0x00690304, // ī
-        0x014D => 0x006F0304, // ō
-        0x016B => 0x00750304, // ū
-        _ => 0,
-    }
+    let (ascii, mark) = match c {
+        0x00E0 => (b'a', 0x0300), // à
+        0x00E1 => (b'a', 0x0301), // á
+        0x00E2 => (b'a', 0x0302), // â
+        0x00E8 => (b'e', 0x0300), // è
+        0x00E9 => (b'e', 0x0301), // é
+        0x00EA => (b'e', 0x0302), // ê
+        0x00EC => (b'i', 0x0300), // ì
+        0x00ED => (b'i', 0x0301), // í
+        0x00EE => (b'i', 0x0302), // î
+        0x00F2 => (b'o', 0x0300), // ò
+        0x00F3 => (b'o', 0x0301), // ó
+        0x00F4 => (b'o', 0x0302), // ô
+        0x00F9 => (b'u', 0x0300), // ù
+        0x00FA => (b'u', 0x0301), // ú
+        0x00FB => (b'u', 0x0302), // û
+        _ => return None,
+    };
+    Some(MarkedLetter { ascii, mark })
 }
 
-// The same of both.
-pub(crate) fn letter(c: u16) -> u32
-    ensures { IsLetter c result }
+// A vowel with the mark of tone 7.
+fn macron_letter(c: u16) -> Option<MarkedLetter>
+    ensures { IfSome result (IsLetter c) }
+{
+    let ascii = match c {
+        0x0101 => b'a', // ā
+        0x0113 => b'e', // ē
+        0x012B => b'i', // ī
+        0x014D => b'o', // ō
+        0x016B => b'u', // ū
+        _ => return None,
+    };
+    Some(MarkedLetter {
+        ascii,
+        mark: 0x0304,
+    })
+}
+
+// A vowel with one of these marks.
+pub(crate) fn letter(c: u16) -> Option<MarkedLetter>
+    ensures { IfSome result (IsLetter c) }
 {
     if c < 0x0100 {
-        return low_letter(c);
+        low_letter(c)
+    } else {
+        macron_letter(c)
     }
-    macron_letter(c)
 }
 
 // Takes the full decomposition of a code point.
@@ -177,10 +163,9 @@ fn push_decomposed(c: u16, out: &mut [u8], p: Progress) -> Progress
     requires { p.n + 9 ≤ length out.old }
     ensures { (result.n ≤ p.n + 9) × Further p result out.old out.new (full unicode16 (c ∷ [])) }
 {
-    let both = letter(c);
-    if both != 0 {
-        let q = push_ascii((both / 65536) as u8, out, p);
-        return push((both % 65536) as u16, out, q);
+    if let Some(marked) = letter(c) {
+        let q = push_ascii(marked.ascii, out, p);
+        return push(marked.mark, out, q);
     }
     match ucd::decomposition(c) {
         Mapping::Itself => push(c, out, p),
@@ -203,7 +188,8 @@ fn push_point(c: u16, out: &mut [u8], p: Progress) -> Progress
     push_decomposed(c, out, p)
 }
 
-// The stripped text of `s`, in UTF-8, written to the front of `out`: its length, and the tone of its last mark, Tone::None where it has none.
+// The stripped text of `s`, in UTF-8, written to the front of `out`: its length, and the tone of its last mark, Tone::None where it has none. Each turn
+// steps by the width of a sequence, so that no `for` fits.
 pub(crate) fn walk(s: &[u8], out: &mut [u8]) -> Option<(ByteLen, Tone)>
     requires { (length s.now ≤ length out.old) × (length out.old ≤ 65536) }
     ensures { Walked s.now out.old out.new result }
@@ -211,8 +197,8 @@ pub(crate) fn walk(s: &[u8], out: &mut [u8]) -> Option<(ByteLen, Tone)>
     let mut i: usize = 0;
     let mut p = Progress {
         n: 0,
-        mark: 0,
-        behind: 0,
+        tone: Tone::None,
+        behind: None,
         sorted: true,
     };
     while i < s.len() {
@@ -229,8 +215,5 @@ pub(crate) fn walk(s: &[u8], out: &mut [u8]) -> Option<(ByteLen, Tone)>
             i += sequence.width;
         }
     }
-    if p.sorted {
-        return Some((ByteLen(p.n), mark_tone(p.mark)));
-    }
-    None
+    p.sorted.then_some((ByteLen(p.n), p.tone))
 }

@@ -1,116 +1,79 @@
 // A text with at most one tone mark, as a syllable has: all of it is looked at before the first byte is written, so that it needs no buffer in
 // between.
-ghost use Rattle.std.specs.Prelude.{◌≡◌, true, ◌∷◌, ◌++◌, ◌+◌, ◌/◌, ◌%◌, ◌≤◌, ◌<◌, length, take, drop};
-ghost use Rattle.ji.specs.Utf8.{bytes_of};
+ghost use Rattle.std.specs.Prelude.{◌≡◌, ◌∷◌, ◌++◌, ◌+◌, ◌≤◌, ◌<◌, length, take, drop, IfSome};
 ghost use Rattle.ji.specs.Tone.{tone_number};
 ghost use Rattle.ji.specs.Reply.{placed};
 ghost use Rattle.ji.specs.Lomaji.Strip.{mark_tone, strip_reply};
 ghost use Rattle.ji.specs.Lomaji.Single.{KeptTo, MarkedAt};
 
 use crate::lomaji::quick;
+use crate::lomaji::quick::MarkedLetter;
 use crate::lomaji::strip::{StripResult, mark_tone};
 use crate::reply;
 use crate::reply::Refusal;
 use crate::unicode::ByteLen;
-
-// Whether U+0358 stands at `i`.
-fn is_dot(s: &[u8], i: usize) -> bool
-    requires { i < length s.now }
-    ensures { result ≡ true → (i + 2 ≤ length s.now) × (drop i s.now ≡ bytes_of 0x0358 ++ drop (i + 2) s.now) }
-{
-    if i + 1 < s.len() {
-        if s[i] == 0xCD {
-            return s[i + 1] == 0x98;
-        }
-    }
-    false
-}
-
-// Whether ⁿ stands at `i`.
-fn is_nasal(s: &[u8], i: usize) -> bool
-    requires { i < length s.now }
-    ensures { result ≡ true → (i + 3 ≤ length s.now) × (drop i s.now ≡ bytes_of 0x207F ++ drop (i + 3) s.now) }
-{
-    if i + 2 < s.len() {
-        if s[i] == 0xE2 {
-            if s[i + 1] == 0x81 {
-                return s[i + 2] == 0xBF;
-            }
-        }
-    }
-    false
-}
 
 // Where the first byte from `from` on stands that is not ASCII. Most bytes are, and a loop of its own is the quickest way past them.
 fn ascii_to(s: &[u8], from: usize) -> usize
     requires { from ≤ length s.now }
     ensures { (from ≤ result) × (result ≤ length s.now) × KeptTo s.now from result }
 {
-    let mut i = from;
-    while i < s.len() {
+    for i in from..s.len() {
         if 0x7F < s[i] {
             return i;
         }
-        i += 1;
     }
-    i
+    s.len()
 }
 
-// Where the first code point from `from` on stands that is not ASCII, U+0358 or ⁿ; these are their own NFD, and no tone marks.
+// Where the first code point from `from` on stands that is not ASCII, U+0358 or ⁿ; these are their own NFD, and no tone marks. Each turn steps by the
+// width of one and of the ASCII behind it, so that no `for` fits.
 pub(crate) fn kept_to(s: &[u8], from: usize) -> usize
     requires { from ≤ length s.now }
     ensures { (result ≤ length s.now) × KeptTo s.now from result }
 {
     let mut i = ascii_to(s, from);
     while i < s.len() {
-        if is_dot(s, i) {
-            i = ascii_to(s, i + 2);
-        } else if is_nasal(s, i) {
-            i = ascii_to(s, i + 3);
-        } else {
-            return i;
+        match &s[i..] {
+            [0xCD, 0x98, ..] => i = ascii_to(s, i + 2), // U+0358
+            [0xE2, 0x81, 0xBF, ..] => i = ascii_to(s, i + 3), // ⁿ
+            _ => return i,
         }
     }
     i
 }
 
-// The letter with a tone mark that stands at `at`: its ASCII letter and the mark in one number, and 0 where there is none.
-pub(crate) fn marked_at(s: &[u8], at: usize) -> u32
+// The letter with a tone mark that stands at `at`.
+pub(crate) fn marked_at(s: &[u8], at: usize) -> Option<MarkedLetter>
     requires { at < length s.now }
-    ensures { MarkedAt s.now at result }
+    ensures { IfSome result (MarkedAt s.now at) }
 {
-    if at + 1 < s.len() {
-        let a = s[at] as u32;
-        let b = s[at + 1] as u32;
-        if b / 64 == 2 {
-            if a / 32 == 6 {
-                return quick::letter((a % 32 * 64 + b % 64) as u16);
-            }
+    match &s[at..] {
+        [a @ 0xC0..=0xDF, b @ 0x80..=0xBF, ..] => {
+            quick::letter(*a as u16 % 32 * 64 + *b as u16 % 64)
         }
+        _ => None,
     }
-    0
 }
 
 // Writes the text without the mark of the letter at `at`, and answers its length and its tone.
 pub(crate) fn place_marked(
     text: &[u8],
     at: usize,
-    letter: u32,
+    letter: MarkedLetter,
     out: &mut [u8],
 ) -> Result<StripResult, Refusal>
-    requires { (at + 2 ≤ length text.now) × (letter / 65536 < 0x80) }
-    ensures { strip_reply result out.new ≡ placed (tone_number (mark_tone (letter % 65536))) (take at text.now ++ (letter / 65536 ∷ drop (at + 2) text.now)) out.old }
+    requires { (at + 2 ≤ length text.now) × (letter.ascii < 0x80) }
+    ensures { strip_reply result out.new ≡ placed (tone_number (mark_tone letter.mark)) (take at text.now ++ (letter.ascii ∷ drop (at + 2) text.now)) out.old }
 {
     if out.len() < text.len() - 1 {
         return Err(Refusal::NoRoom);
     }
-    reply::copy(&text[0..at], out);
-    out[at] = (letter / 65536) as u8;
-    let next = at + 1;
-    let behind = at + 2;
-    reply::copy(&text[behind..], &mut out[next..]);
+    reply::copy(&text[..at], out);
+    out[at] = letter.ascii;
+    reply::copy(&text[at + 2..], &mut out[at + 1..]);
     Ok(StripResult {
         len: ByteLen(text.len() - 1),
-        tone: mark_tone((letter % 65536) as u16),
+        tone: mark_tone(letter.mark),
     })
 }

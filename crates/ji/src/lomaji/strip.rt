@@ -208,11 +208,10 @@ pub fn strip_tone_diacritic(text: &[u8], out: &mut [u8]) -> Result<StripResult, 
     if at == text.len() {
         return place_bytes(text, Tone::None, out);
     }
-    let letter = single::marked_at(text, at);
-    if letter != 0 {
-        if single::kept_to(text, at + 2) == text.len() {
-            return single::place_marked(text, at, letter, out);
-        }
+    if let Some(letter) = single::marked_at(text, at)
+        && single::kept_to(text, at + 2) == text.len()
+    {
+        return single::place_marked(text, at, letter, out);
     }
     strip_any(text, out)
 }

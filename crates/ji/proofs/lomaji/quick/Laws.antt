@@ -3,7 +3,7 @@ use mathlib.Core.Path.{◌≡◌, refl, sym, ap, ◌∙◌}
 use mathlib.Core.Bool.{Bool, true, false, ◌&&◌}
 use mathlib.Core.List.{List, [], ◌∷◌, ◌++◌, append_assoc, append-nil}
 use mathlib.Core.Logic.{◌⊎◌, inl, inr}
-use Prim.Native.Nat.{ℕ, ◌+◌, ◌-◌, ◌/◌, ◌%◌, ◌≤◌, ◌<◌}
+use Prim.Native.Nat.{ℕ, ◌+◌, ◌-◌, ◌≤◌, ◌<◌}
 use native.Mathlib.Omega.{arith}
 use lib.Dec.{T, leb, ltb, leb→le, ltb→lt}
 use lib.ListN.{length, drop, set}
@@ -22,9 +22,10 @@ use Rattle.ji.specs.Lomaji.Strip.{mark_tone, is_tone_mark, without_marks, droppe
 use Rattle.ji.specs.Lomaji.Quick.{IsLetter, Stripping, Further, Walked}
 use Rattle.ji.specs.declared.tone.Tone.{Tone}
 use Rattle.ji.specs.declared.tone.Tone.TheVariants.{None}
+use Rattle.ji.specs.declared.lomaji.quick.MarkedLetter.{MarkedLetter}
 use Rattle.ji.specs.declared.lomaji.quick.Progress.{Progress}
-use Rattle.std.specs.Prelude.{Some}
-use Rattle.ji.proofs.Bools.{either, false_true}
+use Rattle.std.specs.Prelude.{Option as Found, Some, None as Nothing, IfSome}
+use Rattle.ji.proofs.Bools.{either}
 use Rattle.ji.proofs.Writing.{written_none, written_one, written_run, written_length}
 use Rattle.ji.proofs.Decomposition.{full_nil, full_append}
 use Rattle.ji.proofs.unicode.Reader.{width_within, Taken, taken_start, taken_more, taken_end}
@@ -66,6 +67,11 @@ high_starter c high = go (class_passes low_class classes16 classes_low c)
     go : (class_in classes16 c ≡ 0) ⊎ T (leb c 0x036F) → class_in classes16 c ≡ 0
     go (inl e) = e
     go (inr h) = absurd (let low : c ≤ 0x036F = leb→le c 0x036F h in let z : ⊥ = omega arith in z)
+
+-- a starter is not moved before what stands in front of it
+starter_stays : (x : ℕ) → combining_class unicode16 x ≡ 0 → (behind : Found ℕ) → IfSome behind (λ m. Reorderable unicode16 m x → ⊥)
+starter_stays x k Nothing = tt
+starter_stays x k (Some m) = λ r. omega arith
 
 -- ── stripping, with one code point more at the end
 pub without_append : (s u : List ℕ) → without_marks (s ++ u) ≡ without_marks s ++ without_marks u
@@ -118,17 +124,17 @@ low_no_mark x h =
     mark_is x ∙ ap is_tone (sym (no_mark x (differs 0x0301 (omega arith), (differs 0x0300 (omega arith), (differs 0x0302 (omega arith), (differs 0x0303 (omega arith), (differs 0x0304 (omega arith), (differs 0x030D (omega arith), (differs 0x0306 (omega arith), tt)))))))))
 
 -- ── the steps
-pub stripping_start : (before : List ℕ) → Stripping before before (record { n = 0; mark = 0; behind = 0; sorted = true }) []
-unfolding without_marks dropped_marks last_tone mark_tone encode
+pub stripping_start : (before : List ℕ) → Stripping before before (record { n = 0; tone = None; behind = Nothing; sorted = true }) []
+unfolding without_marks dropped_marks last_tone encode
 stripping_start before = record { written = written_none before; tone = refl; order = λ e c f. (tt, tt) }
 
 module _ (before after : List ℕ) (p : Progress) (s : List ℕ) (h : Stripping before after p s) (x : ℕ) where
   -- a tone mark is only remembered
-  pub stripping_mark : is_tone_mark x ≡ true → Stripping before after (record { n = p.n; mark = x; behind = p.behind; sorted = p.sorted }) (s ++ (x ∷ []))
-  stripping_mark e =
+  pub stripping_mark : is_tone_mark x ≡ true → (tone : Tone) → tone ≡ mark_tone x → Stripping before after (record p { tone = tone }) (s ++ (x ∷ []))
+  stripping_mark e tone is =
       record {
         written = rw (without_last_mark s x e) h.written;
-        tone = sym (dropped_last_mark s x e);
+        tone = is ∙ sym (dropped_last_mark s x e);
         order = λ z c f. rw (without_last_mark s x e) (h.order z c f);
       }
 
@@ -137,30 +143,27 @@ module _ (before after : List ℕ) (p : Progress) (s : List ℕ) (h : Stripping 
     kept : Written before after' n (encode (without_marks (s ++ (x ∷ []))))
     kept = rw (without_last s x e) w
 
-    tone_stays : mark_tone p.mark ≡ last_tone None (dropped_marks (s ++ (x ∷ [])))
+    tone_stays : p.tone ≡ last_tone None (dropped_marks (s ++ (x ∷ [])))
     tone_stays = h.tone ∙ ap (last_tone None) (sym (dropped_last s x e))
 
     -- a starter: anything may follow it
-    pub stripping_starter : combining_class unicode16 x ≡ 0 → Stripping before after' (record { n = n; mark = p.mark; behind = 0; sorted = p.sorted }) (s ++ (x ∷ []))
+    pub stripping_starter : combining_class unicode16 x ≡ 0 → Stripping before after' (record p { n = n; behind = Nothing }) (s ++ (x ∷ []))
     stripping_starter k =
         record {
           written = kept;
           tone = tone_stays;
-          order = λ z c f. rw (without_last s x e) (ordered_behind unicode16 (without_marks s) x c (h.order z x (λ r. omega arith)) (λ r. omega arith));
+          order = λ z c f. rw (without_last s x e) (ordered_behind unicode16 (without_marks s) x c (h.order z x (starter_stays x k p.behind)) (λ r. omega arith));
         }
 
-    -- a mark in order
-    pub stripping_behind : (Reorderable unicode16 p.behind x → ⊥) → Stripping before after' (record { n = n; mark = p.mark; behind = x; sorted = p.sorted }) (s ++ (x ∷ []))
-    stripping_behind k =
+    -- a mark, in order if the text is still sorted
+    pub stripping_behind : (sorted : Bool) → (sorted ≡ true → (p.sorted ≡ true) × IfSome p.behind (λ m. Reorderable unicode16 m x → ⊥))
+        → Stripping before after' (record p { n = n; behind = Some x; sorted = sorted }) (s ++ (x ∷ []))
+    stripping_behind sorted k =
         record {
           written = kept;
           tone = tone_stays;
-          order = λ z c f. rw (without_last s x e) (ordered_behind unicode16 (without_marks s) x c (h.order z x k) f);
+          order = λ z c f. rw (without_last s x e) (ordered_behind unicode16 (without_marks s) x c (h.order (k z).0 x (k z).1) f);
         }
-
-    -- a mark out of order
-    pub stripping_unsorted : Stripping before after' (record { n = n; mark = p.mark; behind = x; sorted = false }) (s ++ (x ∷ []))
-    stripping_unsorted = record { written = kept; tone = tone_stays; order = λ z. absurd (false_true z) }
 
   -- the bytes of one more code point, and of an ASCII character
   pub written_point : p.n + length (bytes_of x) ≤ length before → Written before (paste after p.n (bytes_of x) (length (bytes_of x))) (p.n + length (bytes_of x)) (encode (without_marks s ++ (x ∷ [])))
@@ -170,7 +173,7 @@ module _ (before after : List ℕ) (p : Progress) (s : List ℕ) (h : Stripping 
   written_ascii k room = rw (encode_more (without_marks s) x, bytes_one x k) (written_one h.written x room)
 
   -- an ASCII character
-  pub stripping_ascii : x < 0x80 → p.n < length after → Stripping before (set after p.n x) (record { n = p.n + 1; mark = p.mark; behind = 0; sorted = p.sorted }) (s ++ (x ∷ []))
+  pub stripping_ascii : x < 0x80 → p.n < length after → Stripping before (set after p.n x) (record p { n = p.n + 1; behind = Nothing }) (s ++ (x ∷ []))
   stripping_ascii k room =
       let size : length after ≡ length before = written_length h.written in
       stripping_starter (low_no_mark x (omega arith)) (set after p.n x) (p.n + 1) (written_ascii (omega arith) (omega arith)) (low_starter x (omega arith))
@@ -184,38 +187,36 @@ pub further_same : {p q : Progress} {entry exit u v : List ℕ} → u ≡ v → 
 further_same e f before s h = rw (← e) (f before s h)
 
 -- a letter of the short lookup, at its code point k
-unfoldable pub is_letter : ℕ → ℕ → Bool
-is_letter k x = same (decomposition unicode16 k) ((x / 65536) ∷ (x % 65536) ∷ []) && (ltb (x / 65536) 0x80 && (is_tone_mark (x % 65536) && member unicode16 k))
+unfoldable pub is_letter : ℕ → ℕ → ℕ → Bool
+is_letter k ascii mark = same (decomposition unicode16 k) (ascii ∷ mark ∷ []) && (ltb ascii 0x80 && (is_tone_mark mark && member unicode16 k))
 
-pub letter_at : (k x : ℕ) → T (is_letter k x) → (c : ℕ) → c ≡ k → IsLetter c x
+pub letter_at : (k ascii mark : ℕ) → T (is_letter k ascii mark) → (c : ℕ) → c ≡ k → IsLetter c (record { ascii = ascii; mark = mark })
 unfolding is_letter
-letter_at k x h c e some =
-    let both : List ℕ = (x / 65536) ∷ (x % 65536) ∷ [] in
-    let ascii = both_right (same (decomposition unicode16 k) both) (ltb (x / 65536) 0x80 && (is_tone_mark (x % 65536) && member unicode16 k)) h in
-    let mark = both_right (ltb (x / 65536) 0x80) (is_tone_mark (x % 65536) && member unicode16 k) ascii in (
+letter_at k x m h c e =
+    let both : List ℕ = x ∷ m ∷ [] in
+    let ascii = both_right (same (decomposition unicode16 k) both) (ltb x 0x80 && (is_tone_mark m && member unicode16 k)) h in
+    let mark = both_right (ltb x 0x80) (is_tone_mark m && member unicode16 k) ascii in (
       ap (decomposition unicode16) e ∙ same_equal (decomposition unicode16 k) both (both_left (same (decomposition unicode16 k) both) _ h),
-      ltb→lt (x / 65536) 0x80 (both_left (ltb (x / 65536) 0x80) _ ascii),
-      passes_true _ (both_left (is_tone_mark (x % 65536)) _ mark),
-      ap (member unicode16) e ∙ passes_true _ (both_right (is_tone_mark (x % 65536)) _ mark),
+      ltb→lt x 0x80 (both_left (ltb x 0x80) _ ascii),
+      passes_true _ (both_left (is_tone_mark m) _ mark),
+      ap (member unicode16) e ∙ passes_true _ (both_right (is_tone_mark m) _ mark),
     )
 
 -- its full decomposition
-pub letter_full : (c x : ℕ) → IsLetter c x → (x ≡ 0 → ⊥) → (x / 65536) ∷ (x % 65536) ∷ [] ≡ full unicode16 (c ∷ [])
-letter_full c x h some =
-    let low = (h some).1 in
-    sym (full_two c (x / 65536) (x % 65536) (h some).0 ∙ ap (λ (l : List ℕ). l ++ (x % 65536 ∷ [])) (low_atom (x / 65536) (omega arith)))
+pub letter_full : (c : ℕ) (x : MarkedLetter) → IsLetter c x → x.ascii ∷ x.mark ∷ [] ≡ full unicode16 (c ∷ [])
+letter_full c x h = sym (full_two c x.ascii x.mark h.0 ∙ ap (λ (l : List ℕ). l ++ (x.mark ∷ [])) (low_atom x.ascii (omega (arith, h.1))))
 
 -- ── the end: what was stripped is the stripped NFD
 module _ (before after : List ℕ) (p : Progress) (u : List ℕ) (h : Stripping before after p (full unicode16 u)) where
   sorted_rest : p.sorted ≡ true → without_marks (nfd unicode16 u) ≡ without_marks (full unicode16 u)
   sorted_rest e =
       let q : combining_class unicode16 0 ≡ 0 = low_starter 0 (omega arith) in
-      nfd_without u (ordered_before unicode16 (without_marks (full unicode16 u)) 0 (h.order e 0 (λ r. omega arith)))
+      nfd_without u (ordered_before unicode16 (without_marks (full unicode16 u)) 0 (h.order e 0 (starter_stays 0 q p.behind)))
 
   stripped_bytes : p.sorted ≡ true → Written before after p.n (encode (without_marks (nfd unicode16 u)))
   stripped_bytes e = rw (sorted_rest e) h.written
 
-  stripped_tone : mark_tone p.mark ≡ last_tone None (dropped_marks (nfd unicode16 u))
+  stripped_tone : p.tone ≡ last_tone None (dropped_marks (nfd unicode16 u))
   stripped_tone = h.tone ∙ ap (last_tone None) (sym (nfd_dropped u))
 
 -- ── the loop: the first i bytes of s are read and stripped, and there is room for the others, were they ASCII
@@ -231,7 +232,7 @@ pub ascii_full : (x : ℕ) → x < 0x80 → full unicode16 (x ∷ []) ≡ x ∷ 
 ascii_full x h = full_itself x (low_atom x (omega arith))
 
 module _ (s before : List ℕ) where
-  pub walking_start : length s ≤ length before → Walking s before before 0 (record { n = 0; mark = 0; behind = 0; sorted = true })
+  pub walking_start : length s ≤ length before → Walking s before before 0 (record { n = 0; tone = None; behind = Nothing; sorted = true })
   walking_start fit =
       record { inside = omega arith; room = omega arith; text = []; taken = taken_start unicode16 s; stripping = rw (full_nil unicode16) (stripping_start before) }
 
@@ -250,10 +251,10 @@ module _ (s before : List ℕ) where
           stripping = rw (full_append unicode16 r.text (x ∷ [])) (step before (full unicode16 r.text) r.stripping);
         }
 
-    pub walking_end : length s ≤ i → p.sorted ≡ true → (tone : Tone) → tone ≡ mark_tone p.mark → Walked s before out (Some (record { 0 = p.n }, tone))
-    walking_end h e tone is = (
+    pub walking_end : length s ≤ i → p.sorted ≡ true → Walked s before out (Some (record { 0 = p.n }, p.tone))
+    walking_end h e = (
       r.text,
       taken_end unicode16 s r.text i r.taken h,
       stripped_bytes before out p r.text r.stripping e,
-      is ∙ stripped_tone before out p r.text r.stripping,
+      stripped_tone before out p r.text r.stripping,
     )

@@ -3,12 +3,12 @@ use mathlib.Core.Path.{◌≡◌, refl, sym, ap, ap₂, ◌∙◌, subst}
 use mathlib.Core.Bool.{Bool, true, false}
 use mathlib.Core.List.{List, [], ◌∷◌, ◌++◌, append_assoc, append-nil}
 use mathlib.Core.Logic.{◌⊎◌, inl, inr}
-use Prim.Native.Nat.{ℕ, ◌+◌, ◌*◌, ◌/◌, ◌%◌, ◌≤◌, ◌<◌}
+use Prim.Native.Nat.{ℕ, ◌+◌, ◌-◌, ◌*◌, ◌/◌, ◌%◌, ◌≤◌, ◌<◌}
 use native.Mathlib.Omega.{arith}
 use native.Mathlib.Numerals.{add-one}
 use native.Mathlib.Decide.{dec_le}
 use lib.ListN.{length, take, drop, get_or, length-append, length-drop}
-use lib.Seq.{drop-cons, drop-length, take_at}
+use lib.Seq.{drop-cons, drop-length, take_at, take_all, get_or-drop}
 use Rattle.ucd.specs.Table.{All, Atom, in_ranges, mapping_in, class_in, member, decomposition, combining_class}
 use Rattle.ucd.specs.Full.{full}
 use Rattle.ucd.specs.Unicode16.{unicode16, ranges16, mappings16, classes16}
@@ -21,6 +21,7 @@ use Rattle.ji.specs.Reply.{placed}
 use Rattle.ji.specs.Lomaji.Strip.{mark_tone, is_tone_mark, without_marks, dropped_marks, last_tone, unmarked_tone, tone_or, strip_call}
 use Rattle.ji.specs.Lomaji.Quick.{IsLetter}
 use Rattle.ji.specs.Lomaji.Single.{Kept, KeptTo, MarkedAt}
+use Rattle.ji.specs.declared.lomaji.quick.MarkedLetter.{MarkedLetter}
 use Rattle.ji.specs.declared.tone.Tone.{Tone}
 use Rattle.ji.specs.declared.tone.Tone.TheVariants.{None}
 use Rattle.ji.proofs.Bools.{and_yes}
@@ -121,62 +122,62 @@ kept_strip text buffer k short =
     (sym (ap (last_tone None) (kept_marks k.0 k.1) ∙ last_none None)) (is ∙ ap encode (sym (kept_rest k.0 k.1)))
 
 -- ── one letter with a mark among them
-module _ (p r : List ℕ) (c x : ℕ) (hp : All Kept p) (hr : All Kept r) (l : IsLetter c x) (some : x ≡ 0 → ⊥) where
+module _ (p r : List ℕ) (c : ℕ) (x : MarkedLetter) (hp : All Kept p) (hr : All Kept r) (l : IsLetter c x) where
   abbrev whole : List ℕ
   whole = p ++ (c ∷ r)
 
   abbrev left : List ℕ
-  left = p ++ (x / 65536 ∷ r)
+  left = p ++ (x.ascii ∷ r)
 
-  whole_full : full unicode16 whole ≡ p ++ (x / 65536 ∷ x % 65536 ∷ r)
+  whole_full : full unicode16 whole ≡ p ++ (x.ascii ∷ x.mark ∷ r)
   whole_full =
       full_append unicode16 p (c ∷ r)
-      ∙ ap₂ (λ (a b : List ℕ). a ++ b) (kept_full p hp) (full_cons unicode16 c r ∙ ap₂ (λ (a b : List ℕ). a ++ b) (sym (letter_full c x l some)) (kept_full r hr))
+      ∙ ap₂ (λ (a b : List ℕ). a ++ b) (kept_full p hp) (full_cons unicode16 c r ∙ ap₂ (λ (a b : List ℕ). a ++ b) (sym (letter_full c x l)) (kept_full r hr))
 
-  base_kept : Kept (x / 65536)
-  base_kept = inl (omega (arith, (l some).1))
+  base_kept : Kept x.ascii
+  base_kept = inl (omega (arith, l.1))
 
   left_is_kept : All Kept left
-  left_is_kept = all_append Kept p (x / 65536 ∷ r) hp (base_kept, hr)
+  left_is_kept = all_append Kept p (x.ascii ∷ r) hp (base_kept, hr)
 
   whole_without : without_marks (full unicode16 whole) ≡ left
   whole_without =
       ap without_marks whole_full
-      ∙ without_append p (x / 65536 ∷ x % 65536 ∷ r)
+      ∙ without_append p (x.ascii ∷ x.mark ∷ r)
       ∙ ap₂ (λ (a b : List ℕ). a ++ b) (kept_without p hp)
-      (without_other (x / 65536) (x % 65536 ∷ r) (kept_no_mark (x / 65536) base_kept) ∙ ap (λ (b : List ℕ). x / 65536 ∷ b) (without_mark (x % 65536) r (l some).2 ∙ kept_without r hr))
+      (without_other x.ascii (x.mark ∷ r) (kept_no_mark x.ascii base_kept) ∙ ap (λ (b : List ℕ). x.ascii ∷ b) (without_mark x.mark r l.2 ∙ kept_without r hr))
 
-  whole_dropped : dropped_marks (full unicode16 whole) ≡ x % 65536 ∷ []
+  whole_dropped : dropped_marks (full unicode16 whole) ≡ x.mark ∷ []
   whole_dropped =
       ap dropped_marks whole_full
-      ∙ dropped_append p (x / 65536 ∷ x % 65536 ∷ r)
+      ∙ dropped_append p (x.ascii ∷ x.mark ∷ r)
       ∙ ap₂ (λ (a b : List ℕ). a ++ b) (kept_dropped p hp)
-      (dropped_other (x / 65536) (x % 65536 ∷ r) (kept_no_mark (x / 65536) base_kept) ∙ dropped_mark (x % 65536) r (l some).2 ∙ ap (λ (b : List ℕ). x % 65536 ∷ b) (kept_dropped r hr))
+      (dropped_other x.ascii (x.mark ∷ r) (kept_no_mark x.ascii base_kept) ∙ dropped_mark x.mark r l.2 ∙ ap (λ (b : List ℕ). x.mark ∷ b) (kept_dropped r hr))
 
   whole_members : members unicode16 whole ≡ true
-  whole_members = members_append unicode16 p (c ∷ r) (kept_members p hp) ∙ members_append unicode16 (c ∷ []) r (members_one unicode16 c (l some).3) ∙ kept_members r hr
+  whole_members = members_append unicode16 p (c ∷ r) (kept_members p hp) ∙ members_append unicode16 (c ∷ []) r (members_one unicode16 c l.3) ∙ kept_members r hr
 
   -- the mark gives the tone, whatever the ending
-  mark_gives : (other : Tone) → tone_or (mark_tone (x % 65536)) other ≡ mark_tone (x % 65536)
-  mark_gives other = ap (λ (b : Bool). pick_tone b (mark_tone (x % 65536)) other) (sym (mark_is (x % 65536)) ∙ (l some).2)
+  mark_gives : (other : Tone) → tone_or (mark_tone x.mark) other ≡ mark_tone x.mark
+  mark_gives other = ap (λ (b : Bool). pick_tone b (mark_tone x.mark) other) (sym (mark_is x.mark) ∙ l.2)
 
   whole_strip : (text rest buffer : List ℕ) → text ≡ encode whole → rest ≡ encode left → length text ≤ 256
-      → placed (tone_number (mark_tone (x % 65536))) rest buffer ≡ strip_call unicode16 text buffer
+      → placed (tone_number (mark_tone x.mark)) rest buffer ≡ strip_call unicode16 text buffer
   whole_strip text rest buffer is left_bytes short =
       ap (λ (o : Tone). placed (tone_number o) rest buffer) (sym (mark_gives (unmarked_tone rest)))
-      ∙ strip_told unicode16 text buffer whole (bytes_good text whole whole_members is) short (mark_tone (x % 65536)) rest
-      (sym (ap (last_tone None) (nfd_dropped whole ∙ whole_dropped) ∙ last_more None (x % 65536) [] ∙ last_none (mark_tone (x % 65536))))
+      ∙ strip_told unicode16 text buffer whole (bytes_good text whole whole_members is) short (mark_tone x.mark) rest
+      (sym (ap (last_tone None) (nfd_dropped whole ∙ whole_dropped) ∙ last_more None x.mark [] ∙ last_none (mark_tone x.mark)))
       (left_bytes ∙ ap encode (sym (left_kept whole left left_is_kept whole_without)))
 
 -- the same of its bytes
-module _ (text : List ℕ) (at x : ℕ) (inside : at ≤ length text) (front : KeptTo text 0 at) (some : x ≡ 0 → ⊥) (m : MarkedAt text at x) (back : KeptTo text (at + 2) (length text)) where
+module _ (text : List ℕ) (at : ℕ) (x : MarkedLetter) (inside : at ≤ length text) (front : KeptTo text 0 at) (m : MarkedAt text at x) (back : KeptTo text (at + 2) (length text)) where
   abbrev letter : ℕ
-  letter = (m some).1
+  letter = m.1
 
   text_is : text ≡ encode (front.0 ++ (letter ∷ back.0))
   text_is =
       front.2
-      ∙ ap (λ (l : List ℕ). encode front.0 ++ l) ((m some).2 ∙ ap (λ (l : List ℕ). bytes_of letter ++ l) (kept_end text (at + 2) back) ∙ sym (encode_cons letter back.0))
+      ∙ ap (λ (l : List ℕ). encode front.0 ++ l) (m.2 ∙ ap (λ (l : List ℕ). bytes_of letter ++ l) (kept_end text (at + 2) back) ∙ sym (encode_cons letter back.0))
       ∙ sym (encode_append front.0 (letter ∷ back.0))
 
   front_length : length (encode front.0) ≡ at
@@ -185,16 +186,16 @@ module _ (text : List ℕ) (at x : ℕ) (inside : at ≤ length text) (front : K
   front_is : take at text ≡ encode front.0
   front_is = ap (take at) front.2 ∙ take_at (encode front.0) (drop at text) at front_length
 
-  rest_is : take at text ++ (x / 65536 ∷ drop (at + 2) text) ≡ encode (front.0 ++ (x / 65536 ∷ back.0))
+  rest_is : take at text ++ (x.ascii ∷ drop (at + 2) text) ≡ encode (front.0 ++ (x.ascii ∷ back.0))
   rest_is =
-      ap₂ (λ (a b : List ℕ). a ++ (x / 65536 ∷ b)) front_is (kept_end text (at + 2) back)
-      ∙ ap (λ (b : List ℕ). encode front.0 ++ b) (sym (encode_cons (x / 65536) back.0 ∙ ap (λ (a : List ℕ). a ++ encode back.0) (bytes_one (x / 65536) (omega (arith, ((m some).3 some).1)))))
-      ∙ sym (encode_append front.0 (x / 65536 ∷ back.0))
+      ap₂ (λ (a b : List ℕ). a ++ (x.ascii ∷ b)) front_is (kept_end text (at + 2) back)
+      ∙ ap (λ (b : List ℕ). encode front.0 ++ b) (sym (encode_cons x.ascii back.0 ∙ ap (λ (a : List ℕ). a ++ encode back.0) (bytes_one x.ascii (omega (arith, m.3.1)))))
+      ∙ sym (encode_append front.0 (x.ascii ∷ back.0))
 
   -- what the call replies to it
   pub marked_strip : (buffer : List ℕ) → length text ≤ 256
-      → placed (tone_number (mark_tone (x % 65536))) (take at text ++ (x / 65536 ∷ drop (at + 2) text)) buffer ≡ strip_call unicode16 text buffer
-  marked_strip buffer short = whole_strip front.0 back.0 letter x front.1 back.1 (m some).3 some text _ buffer text_is rest_is short
+      → placed (tone_number (mark_tone x.mark)) (take at text ++ (x.ascii ∷ drop (at + 2) text)) buffer ≡ strip_call unicode16 text buffer
+  marked_strip buffer short = whole_strip front.0 back.0 letter x front.1 back.1 m.3 text _ buffer text_is rest_is short
 
 -- ── the bytes at a place
 one_at : (s : List ℕ) (i : ℕ) → i < length s → drop i s ≡ get_or s i 0 ∷ drop (i + 1) s
@@ -214,13 +215,33 @@ three_at s i h =
 pub ascii_at : (s : List ℕ) (i : ℕ) → i < length s → get_or s i 0 < 0x80 → drop i s ≡ bytes_of (get_or s i 0) ++ drop (i + 1) s
 ascii_at s i h low = one_at s i h ∙ ap (λ (l : List ℕ). l ++ drop (i + 1) s) (sym (bytes_one (get_or s i 0) (omega arith)))
 
-pub dot_at : (s : List ℕ) (i : ℕ) → i + 1 < length s → get_or s i 0 ≡ 0xCD → get_or s (i + 1) 0 ≡ 0x98 → drop i s ≡ bytes_of 0x0358 ++ drop (i + 2) s
-unfolding bytes_of
-dot_at s i h a b = two_at s i h ∙ ap₂ (λ (x y : ℕ). x ∷ y ∷ drop (i + 2) s) a b
+-- the part of s from i on, as a pattern reads it
+abbrev pub part : List ℕ → ℕ → List ℕ
+part s i = take (length s - i) (drop i s)
 
-pub nasal_at : (s : List ℕ) (i : ℕ) → i + 2 < length s → get_or s i 0 ≡ 0xE2 → get_or s (i + 1) 0 ≡ 0x81 → get_or s (i + 2) 0 ≡ 0xBF → drop i s ≡ bytes_of 0x207F ++ drop (i + 3) s
+part_is : (s : List ℕ) (i : ℕ) → part s i ≡ drop i s
+part_is s i = take_all (length s - i) (drop i s) (omega (arith, length-drop i s))
+
+pub byte_in : (s : List ℕ) (i k : ℕ) → get_or (part s i) k 0 ≡ get_or s (i + k) 0
+byte_in s i k = ap (λ (l : List ℕ). get_or l k 0) (part_is s i) ∙ (let e : get_or (drop i s) k 0 ≡ get_or s (i + k) 0 = rw get_or-drop in e)
+
+pub inside : (s : List ℕ) (i n : ℕ) → 0 < n → n ≤ length (part s i) → i + n ≤ length s
+inside s i n some h = omega (arith, ap length (part_is s i), length-drop i s)
+
+first_byte : (s : List ℕ) (i b : ℕ) → get_or (part s i) 0 0 ≡ b → get_or s i 0 ≡ b
+first_byte s i b e = let z : i + 0 ≡ i = omega arith in ap (λ (k : ℕ). get_or s k 0) (sym z) ∙ sym (byte_in s i 0) ∙ e
+
+pub dot_at : (s : List ℕ) (i : ℕ) → 2 ≤ length (part s i) → get_or (part s i) 0 0 ≡ 0xCD → get_or (part s i) 1 0 ≡ 0x98 → drop i s ≡ bytes_of 0x0358 ++ drop (i + 2) s
 unfolding bytes_of
-nasal_at s i h a b c = three_at s i h ∙ ap₂ (λ (x y : ℕ). x ∷ y ∷ get_or s (i + 2) 0 ∷ drop (i + 3) s) a b ∙ ap (λ (z : ℕ). 0xE2 ∷ 0x81 ∷ z ∷ drop (i + 3) s) c
+dot_at s i h a b = two_at s i (omega (arith, inside s i 2 (omega arith) h)) ∙ ap₂ (λ (x y : ℕ). x ∷ y ∷ drop (i + 2) s) (first_byte s i 0xCD a) (sym (byte_in s i 1) ∙ b)
+
+pub nasal_at : (s : List ℕ) (i : ℕ) → 3 ≤ length (part s i) → get_or (part s i) 0 0 ≡ 0xE2 → get_or (part s i) 1 0 ≡ 0x81 → get_or (part s i) 2 0 ≡ 0xBF
+    → drop i s ≡ bytes_of 0x207F ++ drop (i + 3) s
+unfolding bytes_of
+nasal_at s i h a b c =
+    three_at s i (omega (arith, inside s i 3 (omega arith) h))
+    ∙ ap₂ (λ (x y : ℕ). x ∷ y ∷ get_or s (i + 2) 0 ∷ drop (i + 3) s) (first_byte s i 0xE2 a) (sym (byte_in s i 1) ∙ b)
+    ∙ ap (λ (z : ℕ). 0xE2 ∷ 0x81 ∷ z ∷ drop (i + 3) s) (sym (byte_in s i 2) ∙ c)
 
 -- nothing yet, and one code point more
 pub kept_start : (s : List ℕ) (from : ℕ) → KeptTo s from from
@@ -249,15 +270,16 @@ not_ascii c a b e = by_size (dec_le c 0x7F)
     by_size (yes h) = absurd (let z : 1 ≡ 2 = ap length (sym (low_atom c (omega arith)) ∙ e) in omega arith)
     by_size (no h) = omega arith
 
-pub letter_marked : (s : List ℕ) (at c x : ℕ) → at + 1 < length s → get_or s at 0 / 32 ≡ 6 → get_or s (at + 1) 0 / 64 ≡ 2
-    → c ≡ get_or s at 0 % 32 * 64 + get_or s (at + 1) 0 % 64 → IsLetter c x → MarkedAt s at x
-letter_marked s at c x h a b is l some =
-    let first : get_or s at 0 ≡ 0xC0 + c / 64 = omega arith in
-    let second : get_or s (at + 1) 0 ≡ 0x80 + c % 64 = omega arith in (
-      omega arith,
+pub letter_marked : (s : List ℕ) (at c : ℕ) (x : MarkedLetter) → 2 ≤ length (part s at) → get_or (part s at) 0 0 / 32 ≡ 6 → get_or (part s at) 1 0 / 64 ≡ 2
+    → c ≡ get_or (part s at) 0 0 % 32 * 64 + get_or (part s at) 1 0 % 64 → IsLetter c x → MarkedAt s at x
+letter_marked s at c x h a b is l =
+    let room : at + 2 ≤ length s = inside s at 2 (omega arith) h in
+    let first : get_or s at 0 ≡ 0xC0 + c / 64 = first_byte s at _ (let e : get_or (part s at) 0 0 ≡ 0xC0 + c / 64 = omega arith in e) in
+    let second : get_or s (at + 1) 0 ≡ 0x80 + c % 64 = omega (arith, byte_in s at 1) in (
+      room,
       c,
-      two_at s at h
+      two_at s at (omega arith)
           ∙ ap₂ (λ (y z : ℕ). y ∷ z ∷ drop (at + 2) s) first second
-          ∙ ap (λ (u : List ℕ). u ++ drop (at + 2) s) (sym (bytes_two c (not_ascii c (x / 65536) (x % 65536) (l some).0) (omega arith))),
+          ∙ ap (λ (u : List ℕ). u ++ drop (at + 2) s) (sym (bytes_two c (not_ascii c x.ascii x.mark l.0) (omega arith))),
       l,
     )

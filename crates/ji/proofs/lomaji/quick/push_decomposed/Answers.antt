@@ -5,18 +5,14 @@ use Rattle.ji.proofs.unicode.Laws.{told}
 use native.Mathlib.Omega.{arith}
 use Rattle.ji.proofs.lomaji.quick.push_decomposed.Goals as goal
 
-pub overflow_cast-both : goal.overflow_cast-both
-overflow_cast-both c = let low = (c.letter-both.ensures c.if-both-ne0.true).1 in omega arith
-
 pub push_ascii-q-requires : goal.push_ascii-q-requires
-push_ascii-q-requires c = ((c.letter-both.ensures c.if-both-ne0.true).1, omega arith)
+push_ascii-q-requires c = (c.in-Some.ensures.1, omega arith)
 
-pub returns-then-both-ne0 : goal.returns-then-both-ne0
-returns-then-both-ne0 c =
+pub returns-in-Some : goal.returns-in-Some
+returns-in-Some c =
     let w = c.push in
     let v = c.push_ascii-q in
-    let l = c.letter-both in
-    (omega (arith, v.ensures.0, w.ensures.0), further_same (letter_full _ l.result l.ensures c.if-both-ne0.true) (further_both v.ensures.1 w.ensures.1))
+    (omega (arith, v.ensures.0, w.ensures.0), further_same (letter_full _ _ c.in-Some.ensures) (further_both v.ensures.1 w.ensures.1))
 
 pub returns-in-Itself : goal.returns-in-Itself
 returns-in-Itself c =

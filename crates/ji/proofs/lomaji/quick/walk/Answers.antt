@@ -1,15 +1,16 @@
-use mathlib.Core.Path.{◌≡◌, sym, subst}
-use mathlib.Core.Bool.{true}
+use mathlib.Core.Path.{◌≡◌, refl, sym, subst}
+use mathlib.Core.Bool.{Bool, true, false}
 use mathlib.Core.List.{List, [], ◌∷◌}
 use Prim.Native.Nat.{ℕ, ◌+◌, ◌-◌, ◌≤◌, ◌<◌}
 use lib.Dec.{T}
 use lib.ListN.{length, drop, get_or}
+use Rattle.std.specs.Bool.{then_some}
 use Rattle.ucd.specs.Table.{member}
 use Rattle.ucd.specs.Full.{full}
 use Rattle.ucd.specs.Unicode16.{unicode16}
 use Rattle.ucd.proofs.Unicode16.{member_below}
 use Rattle.ji.specs.Utf8.{SequenceOf}
-use Rattle.ji.specs.Lomaji.Quick.{Further}
+use Rattle.ji.specs.Lomaji.Quick.{Further, Walked}
 use Rattle.ji.specs.declared.lomaji.quick.Progress.{Progress}
 use Rattle.ji.proofs.Writing.{written_length}
 use Rattle.ji.proofs.utf8.Laws.{read_one}
@@ -71,5 +72,10 @@ loop-i-preserved c =
     let w = c.push_point-p in
     again c.args.s.now c.args.out.now c.loop-i.out c.loop-i.i c.loop-i.p c.loop-i.invariant c.loop-i-test.true _ _ c.in_ok-sequence.ensures c.if-not-is_member.ensures c.if-out-p.false w.result _ w.ensures.0 w.ensures.1
 
-pub returns-then-p : goal.returns-then-p
-returns-then-p c = walking_end c.args.s.now c.args.out.now c.loop-i.out c.loop-i.i c.loop-i.p c.loop-i.invariant c.loop-i-test.false c.if-p.true c.mark_tone.result c.mark_tone.ensures
+module _ (s before out : List ℕ) (i : ℕ) (p : Progress) (r : Walking s before out i p) (h : length s ≤ i) where
+  ended : (b : Bool) → p.sorted ≡ b → Walked s before out (then_some b (record { 0 = p.n }, p.tone))
+  ended true e = walking_end s before out i p r h e
+  ended false e = tt
+
+pub returns : goal.returns
+returns c = rw c.then_some.ensures (ended c.args.s.now c.args.out.now c.loop-i.out c.loop-i.i c.loop-i.p c.loop-i.invariant c.loop-i-test.false c.loop-i.p.sorted refl)

@@ -1,25 +1,15 @@
-use mathlib.Core.Path.{refl}
-use Prim.Native.Nat.{◌+◌}
-use Rattle.ji.proofs.lomaji.single.Laws.{letter_marked}
+use mathlib.Core.Path.{◌≡◌, refl}
+use Prim.Native.Nat.{◌/◌}
+use lib.ListN.{get_or}
+use Rattle.std.proofs.lemmas.Option.{IfSome_then}
+use Rattle.ji.proofs.lomaji.single.Laws.{part, letter_marked}
 use native.Mathlib.Omega.{arith}
 use Rattle.ji.proofs.lomaji.single.marked_at.Goals as goal
 
-pub overflow_cast-a : goal.overflow_cast-a
-overflow_cast-a c = omega (arith, c.shared_slice_known-then-at-s-1.given c.args.at)
-
-pub overflow_cast-b : goal.overflow_cast-b
-overflow_cast-b c = let a = c.args in omega (arith, c.shared_slice_known-then-at-s-2-1.given (a.at + 1))
-
-pub returns-then-a-eq6 : goal.returns-then-a-eq6
-returns-then-a-eq6 c =
-    let a = c.args in
-    letter_marked a.s.now a.at _ c.letter.result c.if-at-s.true c.if-a-eq6.true c.if-b-eq2.true refl c.letter.ensures
-
-pub returns-else-a-eq6 : goal.returns-else-a-eq6
-returns-else-a-eq6 c = λ some. absurd (some refl)
-
-pub returns-else-b-eq2 : goal.returns-else-b-eq2
-returns-else-b-eq2 c = λ some. absurd (some refl)
-
-pub returns-else-at-s : goal.returns-else-at-s
-returns-else-at-s c = λ some. absurd (some refl)
+pub returns-in-192-to-223 : goal.returns-in-192-to-223
+returns-in-192-to-223 c =
+    let s = c.args.s.now in
+    let at = c.args.at in
+    let first : get_or (part s at) 0 0 / 32 ≡ 6 = omega arith in
+    let second : get_or (part s at) 1 0 / 64 ≡ 2 = omega arith in
+    IfSome_then c.letter.result c.letter.ensures (λ x l. letter_marked s at _ x c.in-192-to-223.len_at_least first second refl l)

@@ -1,7 +1,6 @@
 use mathlib.Core.Path.{◌≡◌, ap, ◌∙◌, subst}
 use mathlib.Core.List.{List, [], ◌∷◌, ◌++◌}
-use Prim.Native.Nat.{ℕ, ◌+◌, ◌-◌, ◌/◌, ◌%◌, ◌≤◌, ◌<◌}
-use native.Mathlib.Nat.{sub-zero}
+use Prim.Native.Nat.{ℕ, ◌+◌, ◌-◌, ◌≤◌, ◌<◌}
 use lib.ListN.{length, take, drop, set, length-append, length-drop}
 use lib.Seq.{append_snoc, take_all, length-take-le}
 use Rattle.ji.specs.Written.{Written}
@@ -21,7 +20,7 @@ no_room tone text out at base inside short =
     (omega (arith, length-append (take at text) (base ∷ drop (at + 2) text), length-take-le at text (omega arith), length-drop (at + 2) text))
 
 -- the front is copied, then the base is stored, then what is behind the letter is copied
-module _ (text out front : List ℕ) (at base : ℕ) (inside : at + 2 ≤ length text) (room : length text - 1 ≤ length out) (w : Written out front (length (take (at - 0) text)) (take (at - 0) text)) where
+module _ (text out front : List ℕ) (at base : ℕ) (inside : at + 2 ≤ length text) (room : length text - 1 ≤ length out) (w : Written out front (length (take at text)) (take at text)) where
   abbrev based : List ℕ
   based = set front at base
 
@@ -31,14 +30,8 @@ module _ (text out front : List ℕ) (at base : ℕ) (inside : at + 2 ≤ length
   abbrev lent : List ℕ
   lent = take (length based - (at + 1)) (drop (at + 1) based)
 
-  front_is : take (at - 0) text ≡ take at text
-  front_is = ap (λ (k : ℕ). take k text) (sub-zero at)
-
-  front_size : length (take (at - 0) text) ≡ at
-  front_size = ap length front_is ∙ length-take-le at text (omega arith)
-
   front_written : Written out front at (take at text)
-  front_written = subst (λ (l : List ℕ). Written out front at l) front_is (subst (λ (k : ℕ). Written out front k (take (at - 0) text)) front_size w)
+  front_written = subst (λ (k : ℕ). Written out front k (take at text)) (length-take-le at text (omega arith)) w
 
   base_written : Written out based (at + 1) (take at text ++ (base ∷ []))
   base_written = written_one front_written base (omega arith)
@@ -65,26 +58,26 @@ module _ (text out front : List ℕ) (at base : ℕ) (inside : at + 2 ≤ length
 
 pub returns-then-out-text : goal.returns-then-out-text
 returns-then-out-text c =
-    no_room (tone_number (mark_tone (c.args.letter % 65536))) c.args.text.now c.args.out.now c.args.at (c.args.letter / 65536) c.requires.0 c.if-out-text.true
+    no_room (tone_number (mark_tone c.args.letter.mark)) c.args.text.now c.args.out.now c.args.at c.args.letter.ascii c.requires.0 c.if-out-text.true
 
-pub slice_bounds-copy-count-3 : goal.slice_bounds-copy-count-3
-slice_bounds-copy-count-3 c =
+pub slice_bounds-copy-count-2 : goal.slice_bounds-copy-count-2
+slice_bounds-copy-count-2 c =
     let f = c.copy in
-    next_inside c.args.text.now c.args.out.now f.new.out c.args.at (c.args.letter / 65536) c.requires.0 c.if-out-text.false f.ensures
+    next_inside c.args.text.now c.args.out.now f.new.out c.args.at c.args.letter.ascii c.requires.0 c.if-out-text.false f.ensures
 
-pub slice_bounds-copy-start-3 : goal.slice_bounds-copy-start-3
-slice_bounds-copy-start-3 c =
+pub slice_bounds-copy-start-2 : goal.slice_bounds-copy-start-2
+slice_bounds-copy-start-2 c =
     let f = c.copy in
-    next_inside c.args.text.now c.args.out.now f.new.out c.args.at (c.args.letter / 65536) c.requires.0 c.if-out-text.false f.ensures
+    next_inside c.args.text.now c.args.out.now f.new.out c.args.at c.args.letter.ascii c.requires.0 c.if-out-text.false f.ensures
 
 pub copy-requires-2 : goal.copy-requires-2
 copy-requires-2 c =
     let f = c.copy in
-    behind_fits c.args.text.now c.args.out.now f.new.out c.args.at (c.args.letter / 65536) c.requires.0 c.if-out-text.false f.ensures
+    behind_fits c.args.text.now c.args.out.now f.new.out c.args.at c.args.letter.ascii c.requires.0 c.if-out-text.false f.ensures
 
 pub returns : goal.returns
 returns c =
     let f = c.copy in
     rw c.mark_tone.ensures
     (placed_written _ _ c.args.out.now _ _
-    (all_written c.args.text.now c.args.out.now f.new.out c.args.at (c.args.letter / 65536) c.requires.0 c.if-out-text.false f.ensures c.copy-2.new.out c.copy-2.ensures))
+    (all_written c.args.text.now c.args.out.now f.new.out c.args.at c.args.letter.ascii c.requires.0 c.if-out-text.false f.ensures c.copy-2.new.out c.copy-2.ensures))

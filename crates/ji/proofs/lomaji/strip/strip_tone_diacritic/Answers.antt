@@ -19,17 +19,14 @@ returns-then-at-text c =
     ∙ kept_strip a.text.now a.out.now (subst (λ (to : ℕ). KeptTo a.text.now 0 to) c.if-at-text.true c.kept_to-at.ensures.1) c.if-text-gt256.false
 
 pub kept_to-requires : goal.kept_to-requires
-kept_to-requires c = (c.marked_at-letter.ensures c.if-letter-ne0.true).0
+kept_to-requires c = c.in-Some.ensures.0
 
 pub place_marked-requires : goal.place_marked-requires
-place_marked-requires c =
-    let some = c.if-letter-ne0.true in
-    let m = c.marked_at-letter.ensures some in
-    (m.0, (m.3 some).1)
+place_marked-requires c = let m = c.in-Some.ensures in (m.0, m.3.1)
 
-pub returns-then-kept_to-text : goal.returns-then-kept_to-text
-returns-then-kept_to-text c =
+pub returns : goal.returns
+returns c =
     let a = c.args in
     c.place_marked.ensures
-    ∙ marked_strip a.text.now c.kept_to-at.result c.marked_at-letter.result c.kept_to-at.ensures.0 c.kept_to-at.ensures.1 c.if-letter-ne0.true c.marked_at-letter.ensures
+    ∙ marked_strip a.text.now c.kept_to-at.result _ c.kept_to-at.ensures.0 c.kept_to-at.ensures.1 c.in-Some.ensures
     (subst (λ (to : ℕ). KeptTo a.text.now (c.kept_to-at.result + 2) to) c.if-kept_to-text.true c.kept_to.ensures.1) a.out.now c.if-text-gt256.false
