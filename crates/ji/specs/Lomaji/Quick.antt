@@ -1,12 +1,12 @@
 -- The quick way to strip a text, in one walk: what holds while it goes on, and what it gives.
-use Rattle.std.specs.Prelude.{◌≡◌, true, List, [], ◌∷◌, ◌++◌, ℕ, ◌<◌, IfSome}
-use Rattle.ucd.specs.Table.{member, decomposition}
+use Rattle.std.specs.Prelude.{◌≡◌, true, List, [], ◌∷◌, ◌++◌, ℕ, ◌<◌, ◌≤◌, ◌⊎◌}
+use Rattle.ucd.specs.Table.{member, decomposition, combining_class}
 use Rattle.ucd.specs.Unicode16.{unicode16}
 use Rattle.ji.specs.Written.{Written}
 use Rattle.ji.specs.Utf8.{decode, encode}
-use Rattle.ji.specs.Nfd.{Reorderable, Ordered, nfd}
+use Rattle.ji.specs.Nfd.{Ordered, nfd}
 use Rattle.ji.specs.Reply.{good, check_points}
-use Rattle.ji.specs.Lomaji.Strip.{is_tone_mark, without_marks, dropped_marks, last_tone}
+use Rattle.ji.specs.Lomaji.Strip.{mark_tone, is_tone_mark, without_marks, dropped_marks, last_tone}
 use Rattle.ji.specs.declared.tone.Tone.TheVariants.{None}
 use Rattle.ji.specs.declared.lomaji.quick.MarkedLetter.{MarkedLetter}
 use Rattle.ji.specs.declared.lomaji.quick.Progress.{Progress}
@@ -14,16 +14,17 @@ use Rattle.std.specs.Prelude.{Option, Some}
 use Rattle.ji.specs.declared.tone.Tone.{Tone}
 use Rattle.ji.specs.declared.unicode.ByteLen.{ByteLen}
 
--- c, of the table, decomposes to this ASCII character and this tone mark
+-- c, of the table, decomposes to this ASCII character and the mark of this tone
 abbrev pub IsLetter : ℕ → MarkedLetter → Type 0
-IsLetter c letter = (decomposition unicode16 c ≡ letter.ascii ∷ letter.mark ∷ []) × (letter.ascii < 0x80) × (is_tone_mark letter.mark ≡ true) × (member unicode16 c ≡ true)
+IsLetter c letter =
+    (mark : ℕ) × (decomposition unicode16 c ≡ letter.ascii ∷ mark ∷ []) × (letter.ascii < 0x80) × (is_tone_mark mark ≡ true) × (mark_tone mark ≡ letter.tone) × (member unicode16 c ≡ true)
 
 -- the code points s, which decompose no further, are stripped as far as p says. While p is sorted, the rest is in order, and stays so with any
--- code point behind it that is not to be exchanged with the mark that was written last
+-- code point behind it that is a starter or whose class is not below that of the last one
 pub record Stripping (before after : List ℕ) (p : Progress) (s : List ℕ) : Type 0 where
   pub written : Written before after p.n (encode (without_marks s))
   pub tone : p.tone ≡ last_tone None (dropped_marks s)
-  pub order : p.sorted ≡ true → (c : ℕ) → IfSome p.behind (λ mark. Reorderable unicode16 mark c → ⊥) → Ordered unicode16 (without_marks s ++ (c ∷ []))
+  pub order : p.sorted ≡ true → (c : ℕ) → (combining_class unicode16 c ≡ 0) ⊎ (p.class ≤ combining_class unicode16 c) → Ordered unicode16 (without_marks s ++ (c ∷ []))
 
 -- a step from p to q takes the code points u, whatever was taken before
 abbrev pub Further : Progress → Progress → List ℕ → List ℕ → List ℕ → Type 0

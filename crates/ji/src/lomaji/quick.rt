@@ -1,11 +1,10 @@
 // The quick way to strip a text: one walk from its bytes to the bytes of the stripped text. It gives up where the text is refused, where the marks
 // that are left have to be put in order, and where the buffer might be too short.
-ghost use Rattle.std.specs.Prelude.{◌≡◌, false, [], ◌∷◌, ℕ, ◌+◌, ◌≤◌, ◌<◌, length, IfSome};
+ghost use Rattle.std.specs.Prelude.{◌≡◌, false, [], ◌∷◌, ◌+◌, ◌≤◌, ◌<◌, length, IfSome};
 ghost use Rattle.ucd.specs.Table.{decomposition};
 ghost use Rattle.ucd.specs.Full.{full};
 ghost use Rattle.ucd.specs.Unicode16.{unicode16};
 ghost use Rattle.ji.specs.Written.{Written};
-ghost use Rattle.ji.specs.Nfd.{Reorderable};
 ghost use Rattle.ji.specs.Lomaji.Strip.{is_tone_mark};
 ghost use Rattle.ji.specs.Lomaji.Quick.{IsLetter, Further, Walked};
 
@@ -15,13 +14,13 @@ use crate::unicode::ByteLen;
 use crate::{nfd, utf8};
 use ucd::Mapping;
 
-// How many bytes are written, the tone of the last tone mark, the last code point that was written where that is a mark, and whether the marks that
-// were written are in order.
+// How many bytes are written, the tone of the last tone mark, the combining class of the last code point that was written, and whether those that were
+// written are in order.
 #[derive(Clone, Copy)]
 struct Progress {
     n: usize,
     tone: Tone,
-    behind: Option<u16>,
+    class: u8,
     sorted: bool,
 }
 
@@ -33,36 +32,23 @@ fn push_ascii(x: u8, out: &mut [u8], p: Progress) -> Progress
     out[p.n] = x;
     Progress {
         n: p.n + 1,
-        behind: None,
+        class: 0,
         ..p
     }
 }
 
-// Whether `x` might have to be moved before the mark `behind`. Most marks follow none.
-fn is_before(x: u16, behind: Option<u16>) -> bool
-    ensures { result ≡ false → IfSome behind (λ mark. Reorderable unicode16 mark x → ⊥) }
-{
-    behind.is_some_and(|mark| nfd::class_of(x) < nfd::class_of(mark))
-}
-
-// Takes a code point that is no tone mark. All that have to be put in order lie between U+0300 and U+036F.
+// Takes a code point that is no tone mark.
 fn push_kept(x: u16, out: &mut [u8], p: Progress) -> Progress
     requires { (is_tone_mark x ≡ false) × (p.n + 3 ≤ length out.old) }
     ensures { (result.n ≤ p.n + 3) × Further p result out.old out.new (x ∷ []) }
 {
-    let n = utf8::put_point(x as u32, out, p.n);
-    match x {
-        0x0300..=0x036F => Progress {
-            n,
-            behind: Some(x),
-            sorted: p.sorted && !is_before(x, p.behind),
-            ..p
-        },
-        _ => Progress {
-            n,
-            behind: None,
-            ..p
-        },
+    let class = nfd::class_of(x);
+    let sorted = p.sorted && (class == 0 || p.class <= class);
+    Progress {
+        n: utf8::put_point(x as u32, out, p.n),
+        class,
+        sorted,
+        ..p
     }
 }
 
@@ -96,11 +82,11 @@ fn push_first(a: u16, out: &mut [u8], p: Progress) -> Progress
     }
 }
 
-// An ASCII letter with a tone mark.
+// An ASCII letter with a tone mark, and the tone of that.
 #[derive(Clone, Copy)]
 pub(crate) struct MarkedLetter {
     pub ascii: u8,
-    pub mark: u16,
+    pub tone: Tone,
 }
 
 // A vowel with the mark of tone 2, 3 or 5. Texts hold few others that decompose. A `match` is compiled into a table where its patterns lie close
@@ -108,25 +94,25 @@ pub(crate) struct MarkedLetter {
 fn low_letter(c: u16) -> Option<MarkedLetter>
     ensures { IfSome result (IsLetter c) }
 {
-    let (ascii, mark) = match c {
-        0x00E0 => (b'a', 0x0300), // à
-        0x00E1 => (b'a', 0x0301), // á
-        0x00E2 => (b'a', 0x0302), // â
-        0x00E8 => (b'e', 0x0300), // è
-        0x00E9 => (b'e', 0x0301), // é
-        0x00EA => (b'e', 0x0302), // ê
-        0x00EC => (b'i', 0x0300), // ì
-        0x00ED => (b'i', 0x0301), // í
-        0x00EE => (b'i', 0x0302), // î
-        0x00F2 => (b'o', 0x0300), // ò
-        0x00F3 => (b'o', 0x0301), // ó
-        0x00F4 => (b'o', 0x0302), // ô
-        0x00F9 => (b'u', 0x0300), // ù
-        0x00FA => (b'u', 0x0301), // ú
-        0x00FB => (b'u', 0x0302), // û
+    let (ascii, tone) = match c {
+        0x00E0 => (b'a', Tone::T3), // à
+        0x00E1 => (b'a', Tone::T2), // á
+        0x00E2 => (b'a', Tone::T5), // â
+        0x00E8 => (b'e', Tone::T3), // è
+        0x00E9 => (b'e', Tone::T2), // é
+        0x00EA => (b'e', Tone::T5), // ê
+        0x00EC => (b'i', Tone::T3), // ì
+        0x00ED => (b'i', Tone::T2), // í
+        0x00EE => (b'i', Tone::T5), // î
+        0x00F2 => (b'o', Tone::T3), // ò
+        0x00F3 => (b'o', Tone::T2), // ó
+        0x00F4 => (b'o', Tone::T5), // ô
+        0x00F9 => (b'u', Tone::T3), // ù
+        0x00FA => (b'u', Tone::T2), // ú
+        0x00FB => (b'u', Tone::T5), // û
         _ => return None,
     };
-    Some(MarkedLetter { ascii, mark })
+    Some(MarkedLetter { ascii, tone })
 }
 
 // A vowel with the mark of tone 7.
@@ -143,7 +129,7 @@ fn macron_letter(c: u16) -> Option<MarkedLetter>
     };
     Some(MarkedLetter {
         ascii,
-        mark: 0x0304,
+        tone: Tone::T7,
     })
 }
 
@@ -163,9 +149,12 @@ fn push_decomposed(c: u16, out: &mut [u8], p: Progress) -> Progress
     requires { p.n + 9 ≤ length out.old }
     ensures { (result.n ≤ p.n + 9) × Further p result out.old out.new (full unicode16 (c ∷ [])) }
 {
-    if let Some(marked) = letter(c) {
-        let q = push_ascii(marked.ascii, out, p);
-        return push(marked.mark, out, q);
+    if let Some(letter) = letter(c) {
+        let q = push_ascii(letter.ascii, out, p);
+        return Progress {
+            tone: letter.tone,
+            ..q
+        };
     }
     match ucd::decomposition(c) {
         Mapping::Itself => push(c, out, p),
@@ -198,7 +187,7 @@ pub(crate) fn walk(s: &[u8], out: &mut [u8]) -> Option<(ByteLen, Tone)>
     let mut p = Progress {
         n: 0,
         tone: Tone::None,
-        behind: None,
+        class: 0,
         sorted: true,
     };
     while i < s.len() {

@@ -3,12 +3,12 @@
 ghost use Rattle.std.specs.Prelude.{◌≡◌, ◌∷◌, ◌++◌, ◌+◌, ◌≤◌, ◌<◌, length, take, drop, IfSome};
 ghost use Rattle.ji.specs.Tone.{tone_number};
 ghost use Rattle.ji.specs.Reply.{placed};
-ghost use Rattle.ji.specs.Lomaji.Strip.{mark_tone, strip_reply};
+ghost use Rattle.ji.specs.Lomaji.Strip.{strip_reply};
 ghost use Rattle.ji.specs.Lomaji.Single.{KeptTo, MarkedAt};
 
 use crate::lomaji::quick;
 use crate::lomaji::quick::MarkedLetter;
-use crate::lomaji::strip::{StripResult, mark_tone};
+use crate::lomaji::strip::StripResult;
 use crate::reply;
 use crate::reply::Refusal;
 use crate::unicode::ByteLen;
@@ -64,7 +64,7 @@ pub(crate) fn place_marked(
     out: &mut [u8],
 ) -> Result<StripResult, Refusal>
     requires { (at + 2 ≤ length text.now) × (letter.ascii < 0x80) }
-    ensures { strip_reply result out.new ≡ placed (tone_number (mark_tone letter.mark)) (take at text.now ++ (letter.ascii ∷ drop (at + 2) text.now)) out.old }
+    ensures { strip_reply result out.new ≡ placed (tone_number letter.tone) (take at text.now ++ (letter.ascii ∷ drop (at + 2) text.now)) out.old }
 {
     if out.len() < text.len() - 1 {
         return Err(Refusal::NoRoom);
@@ -74,6 +74,6 @@ pub(crate) fn place_marked(
     reply::copy(&text[at + 2..], &mut out[at + 1..]);
     Ok(StripResult {
         len: ByteLen(text.len() - 1),
-        tone: mark_tone(letter.mark),
+        tone: letter.tone,
     })
 }

@@ -24,7 +24,7 @@ use Rattle.ji.specs.declared.tone.Tone.{Tone}
 use Rattle.ji.specs.declared.tone.Tone.TheVariants.{None}
 use Rattle.ji.specs.declared.lomaji.quick.MarkedLetter.{MarkedLetter}
 use Rattle.ji.specs.declared.lomaji.quick.Progress.{Progress}
-use Rattle.std.specs.Prelude.{Option as Found, Some, None as Nothing, IfSome}
+use Rattle.std.specs.Prelude.{Some}
 use Rattle.ji.proofs.Bools.{either}
 use Rattle.ji.proofs.Writing.{written_none, written_one, written_run, written_length}
 use Rattle.ji.proofs.Decomposition.{full_nil, full_append}
@@ -68,10 +68,10 @@ high_starter c high = go (class_passes low_class classes16 classes_low c)
     go (inl e) = e
     go (inr h) = absurd (let low : c ≤ 0x036F = leb→le c 0x036F h in let z : ⊥ = omega arith in z)
 
--- a starter is not moved before what stands in front of it
-starter_stays : (x : ℕ) → combining_class unicode16 x ≡ 0 → (behind : Found ℕ) → IfSome behind (λ m. Reorderable unicode16 m x → ⊥)
-starter_stays x k Nothing = tt
-starter_stays x k (Some m) = λ r. omega arith
+-- a code point is not moved before another where it is a starter or its class is not below
+stays : (a b class : ℕ) → class ≡ combining_class unicode16 a → (combining_class unicode16 b ≡ 0) ⊎ (class ≤ combining_class unicode16 b) → Reorderable unicode16 a b → ⊥
+stays a b class is (inl k) r = omega (arith, r.1)
+stays a b class is (inr k) r = omega (arith, r.0)
 
 -- ── stripping, with one code point more at the end
 pub without_append : (s u : List ℕ) → without_marks (s ++ u) ≡ without_marks s ++ without_marks u
@@ -124,7 +124,7 @@ low_no_mark x h =
     mark_is x ∙ ap is_tone (sym (no_mark x (differs 0x0301 (omega arith), (differs 0x0300 (omega arith), (differs 0x0302 (omega arith), (differs 0x0303 (omega arith), (differs 0x0304 (omega arith), (differs 0x030D (omega arith), (differs 0x0306 (omega arith), tt)))))))))
 
 -- ── the steps
-pub stripping_start : (before : List ℕ) → Stripping before before (record { n = 0; tone = None; behind = Nothing; sorted = true }) []
+pub stripping_start : (before : List ℕ) → Stripping before before (record { n = 0; tone = None; class = 0; sorted = true }) []
 unfolding without_marks dropped_marks last_tone encode
 stripping_start before = record { written = written_none before; tone = refl; order = λ e c f. (tt, tt) }
 
@@ -146,23 +146,14 @@ module _ (before after : List ℕ) (p : Progress) (s : List ℕ) (h : Stripping 
     tone_stays : p.tone ≡ last_tone None (dropped_marks (s ++ (x ∷ [])))
     tone_stays = h.tone ∙ ap (last_tone None) (sym (dropped_last s x e))
 
-    -- a starter: anything may follow it
-    pub stripping_starter : combining_class unicode16 x ≡ 0 → Stripping before after' (record p { n = n; behind = Nothing }) (s ++ (x ∷ []))
-    stripping_starter k =
+    -- in order if the text is still sorted
+    pub stripping_behind : (class : ℕ) → class ≡ combining_class unicode16 x → (sorted : Bool) → (sorted ≡ true → (p.sorted ≡ true) × ((class ≡ 0) ⊎ (p.class ≤ class)))
+        → Stripping before after' (record p { n = n; class = class; sorted = sorted }) (s ++ (x ∷ []))
+    stripping_behind class is sorted k =
         record {
           written = kept;
           tone = tone_stays;
-          order = λ z c f. rw (without_last s x e) (ordered_behind unicode16 (without_marks s) x c (h.order z x (starter_stays x k p.behind)) (λ r. omega arith));
-        }
-
-    -- a mark, in order if the text is still sorted
-    pub stripping_behind : (sorted : Bool) → (sorted ≡ true → (p.sorted ≡ true) × IfSome p.behind (λ m. Reorderable unicode16 m x → ⊥))
-        → Stripping before after' (record p { n = n; behind = Some x; sorted = sorted }) (s ++ (x ∷ []))
-    stripping_behind sorted k =
-        record {
-          written = kept;
-          tone = tone_stays;
-          order = λ z c f. rw (without_last s x e) (ordered_behind unicode16 (without_marks s) x c (h.order (k z).0 x (k z).1) f);
+          order = λ z c f. rw (without_last s x e) (ordered_behind unicode16 (without_marks s) x c (h.order (k z).0 x (rw (← is) (k z).1)) (stays x c class is f));
         }
 
   -- the bytes of one more code point, and of an ASCII character
@@ -173,10 +164,10 @@ module _ (before after : List ℕ) (p : Progress) (s : List ℕ) (h : Stripping 
   written_ascii k room = rw (encode_more (without_marks s) x, bytes_one x k) (written_one h.written x room)
 
   -- an ASCII character
-  pub stripping_ascii : x < 0x80 → p.n < length after → Stripping before (set after p.n x) (record p { n = p.n + 1; behind = Nothing }) (s ++ (x ∷ []))
+  pub stripping_ascii : x < 0x80 → p.n < length after → Stripping before (set after p.n x) (record p { n = p.n + 1; class = 0 }) (s ++ (x ∷ []))
   stripping_ascii k room =
       let size : length after ≡ length before = written_length h.written in
-      stripping_starter (low_no_mark x (omega arith)) (set after p.n x) (p.n + 1) (written_ascii (omega arith) (omega arith)) (low_starter x (omega arith))
+      stripping_behind (low_no_mark x (omega arith)) (set after p.n x) (p.n + 1) (written_ascii (omega arith) (omega arith)) 0 (sym (low_starter x (omega arith))) p.sorted (λ z. (z, inl refl))
 
 -- two steps, one after the other, and a step that takes the same text
 module _ {p q r : Progress} {entry middle exit u v : List ℕ} where
@@ -190,28 +181,30 @@ further_same e f before s h = rw (← e) (f before s h)
 unfoldable pub is_letter : ℕ → ℕ → ℕ → Bool
 is_letter k ascii mark = same (decomposition unicode16 k) (ascii ∷ mark ∷ []) && (ltb ascii 0x80 && (is_tone_mark mark && member unicode16 k))
 
-pub letter_at : (k ascii mark : ℕ) → T (is_letter k ascii mark) → (c : ℕ) → c ≡ k → IsLetter c (record { ascii = ascii; mark = mark })
+pub letter_at : (k ascii mark : ℕ) → T (is_letter k ascii mark) → (tone : Tone) → mark_tone mark ≡ tone → (c : ℕ) → c ≡ k → IsLetter c (record { ascii = ascii; tone = tone })
 unfolding is_letter
-letter_at k x m h c e =
+letter_at k x m h tone is c e =
     let both : List ℕ = x ∷ m ∷ [] in
     let ascii = both_right (same (decomposition unicode16 k) both) (ltb x 0x80 && (is_tone_mark m && member unicode16 k)) h in
     let mark = both_right (ltb x 0x80) (is_tone_mark m && member unicode16 k) ascii in (
+      m,
       ap (decomposition unicode16) e ∙ same_equal (decomposition unicode16 k) both (both_left (same (decomposition unicode16 k) both) _ h),
       ltb→lt x 0x80 (both_left (ltb x 0x80) _ ascii),
       passes_true _ (both_left (is_tone_mark m) _ mark),
+      is,
       ap (member unicode16) e ∙ passes_true _ (both_right (is_tone_mark m) _ mark),
     )
 
 -- its full decomposition
-pub letter_full : (c : ℕ) (x : MarkedLetter) → IsLetter c x → x.ascii ∷ x.mark ∷ [] ≡ full unicode16 (c ∷ [])
-letter_full c x h = sym (full_two c x.ascii x.mark h.0 ∙ ap (λ (l : List ℕ). l ++ (x.mark ∷ [])) (low_atom x.ascii (omega (arith, h.1))))
+pub letter_full : (c : ℕ) (x : MarkedLetter) (l : IsLetter c x) → x.ascii ∷ l.0 ∷ [] ≡ full unicode16 (c ∷ [])
+letter_full c x l = sym (full_two c x.ascii l.0 l.1 ∙ ap (λ (u : List ℕ). u ++ (l.0 ∷ [])) (low_atom x.ascii (omega (arith, l.2))))
 
 -- ── the end: what was stripped is the stripped NFD
 module _ (before after : List ℕ) (p : Progress) (u : List ℕ) (h : Stripping before after p (full unicode16 u)) where
   sorted_rest : p.sorted ≡ true → without_marks (nfd unicode16 u) ≡ without_marks (full unicode16 u)
   sorted_rest e =
       let q : combining_class unicode16 0 ≡ 0 = low_starter 0 (omega arith) in
-      nfd_without u (ordered_before unicode16 (without_marks (full unicode16 u)) 0 (h.order e 0 (starter_stays 0 q p.behind)))
+      nfd_without u (ordered_before unicode16 (without_marks (full unicode16 u)) 0 (h.order e 0 (inl q)))
 
   stripped_bytes : p.sorted ≡ true → Written before after p.n (encode (without_marks (nfd unicode16 u)))
   stripped_bytes e = rw (sorted_rest e) h.written
@@ -232,7 +225,7 @@ pub ascii_full : (x : ℕ) → x < 0x80 → full unicode16 (x ∷ []) ≡ x ∷ 
 ascii_full x h = full_itself x (low_atom x (omega arith))
 
 module _ (s before : List ℕ) where
-  pub walking_start : length s ≤ length before → Walking s before before 0 (record { n = 0; tone = None; behind = Nothing; sorted = true })
+  pub walking_start : length s ≤ length before → Walking s before before 0 (record { n = 0; tone = None; class = 0; sorted = true })
   walking_start fit =
       record { inside = omega arith; room = omega arith; text = []; taken = taken_start unicode16 s; stripping = rw (full_nil unicode16) (stripping_start before) }
 

@@ -129,13 +129,13 @@ module _ (p r : List ℕ) (c : ℕ) (x : MarkedLetter) (hp : All Kept p) (hr : A
   abbrev left : List ℕ
   left = p ++ (x.ascii ∷ r)
 
-  whole_full : full unicode16 whole ≡ p ++ (x.ascii ∷ x.mark ∷ r)
+  whole_full : full unicode16 whole ≡ p ++ (x.ascii ∷ l.0 ∷ r)
   whole_full =
       full_append unicode16 p (c ∷ r)
       ∙ ap₂ (λ (a b : List ℕ). a ++ b) (kept_full p hp) (full_cons unicode16 c r ∙ ap₂ (λ (a b : List ℕ). a ++ b) (sym (letter_full c x l)) (kept_full r hr))
 
   base_kept : Kept x.ascii
-  base_kept = inl (omega (arith, l.1))
+  base_kept = inl (omega (arith, l.2))
 
   left_is_kept : All Kept left
   left_is_kept = all_append Kept p (x.ascii ∷ r) hp (base_kept, hr)
@@ -143,30 +143,30 @@ module _ (p r : List ℕ) (c : ℕ) (x : MarkedLetter) (hp : All Kept p) (hr : A
   whole_without : without_marks (full unicode16 whole) ≡ left
   whole_without =
       ap without_marks whole_full
-      ∙ without_append p (x.ascii ∷ x.mark ∷ r)
+      ∙ without_append p (x.ascii ∷ l.0 ∷ r)
       ∙ ap₂ (λ (a b : List ℕ). a ++ b) (kept_without p hp)
-      (without_other x.ascii (x.mark ∷ r) (kept_no_mark x.ascii base_kept) ∙ ap (λ (b : List ℕ). x.ascii ∷ b) (without_mark x.mark r l.2 ∙ kept_without r hr))
+      (without_other x.ascii (l.0 ∷ r) (kept_no_mark x.ascii base_kept) ∙ ap (λ (b : List ℕ). x.ascii ∷ b) (without_mark l.0 r l.3 ∙ kept_without r hr))
 
-  whole_dropped : dropped_marks (full unicode16 whole) ≡ x.mark ∷ []
+  whole_dropped : dropped_marks (full unicode16 whole) ≡ l.0 ∷ []
   whole_dropped =
       ap dropped_marks whole_full
-      ∙ dropped_append p (x.ascii ∷ x.mark ∷ r)
+      ∙ dropped_append p (x.ascii ∷ l.0 ∷ r)
       ∙ ap₂ (λ (a b : List ℕ). a ++ b) (kept_dropped p hp)
-      (dropped_other x.ascii (x.mark ∷ r) (kept_no_mark x.ascii base_kept) ∙ dropped_mark x.mark r l.2 ∙ ap (λ (b : List ℕ). x.mark ∷ b) (kept_dropped r hr))
+      (dropped_other x.ascii (l.0 ∷ r) (kept_no_mark x.ascii base_kept) ∙ dropped_mark l.0 r l.3 ∙ ap (λ (b : List ℕ). l.0 ∷ b) (kept_dropped r hr))
 
   whole_members : members unicode16 whole ≡ true
-  whole_members = members_append unicode16 p (c ∷ r) (kept_members p hp) ∙ members_append unicode16 (c ∷ []) r (members_one unicode16 c l.3) ∙ kept_members r hr
+  whole_members = members_append unicode16 p (c ∷ r) (kept_members p hp) ∙ members_append unicode16 (c ∷ []) r (members_one unicode16 c l.5) ∙ kept_members r hr
 
   -- the mark gives the tone, whatever the ending
-  mark_gives : (other : Tone) → tone_or (mark_tone x.mark) other ≡ mark_tone x.mark
-  mark_gives other = ap (λ (b : Bool). pick_tone b (mark_tone x.mark) other) (sym (mark_is x.mark) ∙ l.2)
+  mark_gives : (other : Tone) → tone_or (mark_tone l.0) other ≡ mark_tone l.0
+  mark_gives other = ap (λ (b : Bool). pick_tone b (mark_tone l.0) other) (sym (mark_is l.0) ∙ l.3)
 
   whole_strip : (text rest buffer : List ℕ) → text ≡ encode whole → rest ≡ encode left → length text ≤ 256
-      → placed (tone_number (mark_tone x.mark)) rest buffer ≡ strip_call unicode16 text buffer
+      → placed (tone_number x.tone) rest buffer ≡ strip_call unicode16 text buffer
   whole_strip text rest buffer is left_bytes short =
-      ap (λ (o : Tone). placed (tone_number o) rest buffer) (sym (mark_gives (unmarked_tone rest)))
-      ∙ strip_told unicode16 text buffer whole (bytes_good text whole whole_members is) short (mark_tone x.mark) rest
-      (sym (ap (last_tone None) (nfd_dropped whole ∙ whole_dropped) ∙ last_more None x.mark [] ∙ last_none (mark_tone x.mark)))
+      ap (λ (o : Tone). placed (tone_number o) rest buffer) (sym l.4 ∙ sym (mark_gives (unmarked_tone rest)))
+      ∙ strip_told unicode16 text buffer whole (bytes_good text whole whole_members is) short (mark_tone l.0) rest
+      (sym (ap (last_tone None) (nfd_dropped whole ∙ whole_dropped) ∙ last_more None l.0 [] ∙ last_none (mark_tone l.0)))
       (left_bytes ∙ ap encode (sym (left_kept whole left left_is_kept whole_without)))
 
 -- the same of its bytes
@@ -189,12 +189,12 @@ module _ (text : List ℕ) (at : ℕ) (x : MarkedLetter) (inside : at ≤ length
   rest_is : take at text ++ (x.ascii ∷ drop (at + 2) text) ≡ encode (front.0 ++ (x.ascii ∷ back.0))
   rest_is =
       ap₂ (λ (a b : List ℕ). a ++ (x.ascii ∷ b)) front_is (kept_end text (at + 2) back)
-      ∙ ap (λ (b : List ℕ). encode front.0 ++ b) (sym (encode_cons x.ascii back.0 ∙ ap (λ (a : List ℕ). a ++ encode back.0) (bytes_one x.ascii (omega (arith, m.3.1)))))
+      ∙ ap (λ (b : List ℕ). encode front.0 ++ b) (sym (encode_cons x.ascii back.0 ∙ ap (λ (a : List ℕ). a ++ encode back.0) (bytes_one x.ascii (omega (arith, m.3.2)))))
       ∙ sym (encode_append front.0 (x.ascii ∷ back.0))
 
   -- what the call replies to it
   pub marked_strip : (buffer : List ℕ) → length text ≤ 256
-      → placed (tone_number (mark_tone x.mark)) (take at text ++ (x.ascii ∷ drop (at + 2) text)) buffer ≡ strip_call unicode16 text buffer
+      → placed (tone_number x.tone) (take at text ++ (x.ascii ∷ drop (at + 2) text)) buffer ≡ strip_call unicode16 text buffer
   marked_strip buffer short = whole_strip front.0 back.0 letter x front.1 back.1 m.3 text _ buffer text_is rest_is short
 
 -- ── the bytes at a place
@@ -280,6 +280,6 @@ letter_marked s at c x h a b is l =
       c,
       two_at s at (omega arith)
           ∙ ap₂ (λ (y z : ℕ). y ∷ z ∷ drop (at + 2) s) first second
-          ∙ ap (λ (u : List ℕ). u ++ drop (at + 2) s) (sym (bytes_two c (not_ascii c x.ascii x.mark l.0) (omega arith))),
+          ∙ ap (λ (u : List ℕ). u ++ drop (at + 2) s) (sym (bytes_two c (not_ascii c x.ascii l.0 l.1) (omega arith))),
       l,
     )

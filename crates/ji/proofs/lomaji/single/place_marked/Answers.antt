@@ -6,7 +6,6 @@ use lib.Seq.{append_snoc, take_all, length-take-le}
 use Rattle.ji.specs.Written.{Written}
 use Rattle.ji.specs.Tone.{tone_number}
 use Rattle.ji.specs.Reply.{refused, placed}
-use Rattle.ji.specs.Lomaji.Strip.{mark_tone}
 use Rattle.ji.specs.declared.reply.Refusal.TheVariants.{NoRoom}
 use Rattle.ji.proofs.Writing.{written_one, written_behind, written_length}
 use Rattle.ji.proofs.Replies.{placed_not, placed_written}
@@ -58,7 +57,7 @@ module _ (text out front : List ℕ) (at base : ℕ) (inside : at + 2 ≤ length
 
 pub returns-then-out-text : goal.returns-then-out-text
 returns-then-out-text c =
-    no_room (tone_number (mark_tone c.args.letter.mark)) c.args.text.now c.args.out.now c.args.at c.args.letter.ascii c.requires.0 c.if-out-text.true
+    no_room (tone_number c.args.letter.tone) c.args.text.now c.args.out.now c.args.at c.args.letter.ascii c.requires.0 c.if-out-text.true
 
 pub slice_bounds-copy-count-2 : goal.slice_bounds-copy-count-2
 slice_bounds-copy-count-2 c =
@@ -78,6 +77,5 @@ copy-requires-2 c =
 pub returns : goal.returns
 returns c =
     let f = c.copy in
-    rw c.mark_tone.ensures
-    (placed_written _ _ c.args.out.now _ _
-    (all_written c.args.text.now c.args.out.now f.new.out c.args.at c.args.letter.ascii c.requires.0 c.if-out-text.false f.ensures c.copy-2.new.out c.copy-2.ensures))
+    placed_written _ _ c.args.out.now _ _
+    (all_written c.args.text.now c.args.out.now f.new.out c.args.at c.args.letter.ascii c.requires.0 c.if-out-text.false f.ensures c.copy-2.new.out c.copy-2.ensures)

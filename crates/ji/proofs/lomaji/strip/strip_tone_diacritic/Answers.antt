@@ -22,7 +22,7 @@ pub kept_to-requires : goal.kept_to-requires
 kept_to-requires c = c.in-Some.ensures.0
 
 pub place_marked-requires : goal.place_marked-requires
-place_marked-requires c = let m = c.in-Some.ensures in (m.0, m.3.1)
+place_marked-requires c = let m = c.in-Some.ensures in (m.0, m.3.2)
 
 pub returns : goal.returns
 returns c =
