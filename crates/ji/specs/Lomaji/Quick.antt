@@ -9,7 +9,7 @@ use Rattle.ji.specs.Reply.{good, check_points}
 use Rattle.ji.specs.Lomaji.Strip.{mark_tone, is_tone_mark, without_marks, dropped_marks, last_tone}
 use Rattle.ji.specs.declared.tone.Tone.TheVariants.{None}
 use Rattle.ji.specs.declared.lomaji.quick.MarkedLetter.{MarkedLetter}
-use Rattle.ji.specs.declared.lomaji.quick.Progress.{Progress}
+use Rattle.ji.specs.declared.lomaji.quick.Marks.{Marks}
 use Rattle.std.specs.Prelude.{Option, Some}
 use Rattle.ji.specs.declared.tone.Tone.{Tone}
 use Rattle.ji.specs.declared.unicode.ByteLen.{ByteLen}
@@ -19,16 +19,16 @@ abbrev pub IsLetter : ℕ → MarkedLetter → Type 0
 IsLetter c letter =
     (mark : ℕ) × (decomposition unicode16 c ≡ letter.ascii ∷ mark ∷ []) × (letter.ascii < 0x80) × (is_tone_mark mark ≡ true) × (mark_tone mark ≡ letter.tone) × (member unicode16 c ≡ true)
 
--- the code points s, which decompose no further, are stripped as far as p says. While p is sorted, the rest is in order, and stays so with any
+-- the code points s, which decompose no further, are stripped: n bytes are written, and this is known of the marks. While they are sorted, the rest is in order, and stays so with any
 -- code point behind it that is a starter or whose class is not below that of the last one
-pub record Stripping (before after : List ℕ) (p : Progress) (s : List ℕ) : Type 0 where
-  pub written : Written before after p.n (encode (without_marks s))
-  pub tone : p.tone ≡ last_tone None (dropped_marks s)
-  pub order : p.sorted ≡ true → (c : ℕ) → (combining_class unicode16 c ≡ 0) ⊎ (p.class ≤ combining_class unicode16 c) → Ordered unicode16 (without_marks s ++ (c ∷ []))
+pub record Stripping (before after : List ℕ) (n : ℕ) (marks : Marks) (s : List ℕ) : Type 0 where
+  pub written : Written before after n (encode (without_marks s))
+  pub tone : marks.tone ≡ last_tone None (dropped_marks s)
+  pub order : marks.sorted ≡ true → (c : ℕ) → (combining_class unicode16 c ≡ 0) ⊎ (marks.class ≤ combining_class unicode16 c) → Ordered unicode16 (without_marks s ++ (c ∷ []))
 
--- a step from p to q takes the code points u, whatever was taken before
-abbrev pub Further : Progress → Progress → List ℕ → List ℕ → List ℕ → Type 0
-Further p q entry exit u = (before s : List ℕ) → Stripping before entry p s → Stripping before exit q (s ++ u)
+-- a step takes the code points u, whatever was taken before: from n bytes to m, and from one state of the marks to another
+abbrev pub Further : ℕ → Marks → ℕ → Marks → List ℕ → List ℕ → List ℕ → Type 0
+Further n p m q entry exit u = (before s : List ℕ) → Stripping before entry n p s → Stripping before exit m q (s ++ u)
 
 -- the text is good, and the buffer holds the bytes of its NFD without the marks
 abbrev pub Walked : List ℕ → List ℕ → List ℕ → Option (ByteLen × Tone) → Type 0

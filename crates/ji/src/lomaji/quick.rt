@@ -14,70 +14,64 @@ use crate::unicode::ByteLen;
 use crate::{nfd, utf8};
 use ucd::Mapping;
 
-// How many bytes are written, the tone of the last tone mark, the combining class of the last code point that was written, and whether those that were
-// written are in order.
+// What the walk knows of the marks so far: the tone of the last tone mark, the combining class of the last code point that was written, and whether
+// those that were written are in order.
 #[derive(Clone, Copy)]
-struct Progress {
-    n: usize,
+struct Marks {
     tone: Tone,
     class: u8,
     sorted: bool,
 }
 
-// Takes an ASCII character.
-fn push_ascii(x: u8, out: &mut [u8], p: Progress) -> Progress
-    requires { (x < 0x80) × (p.n < length out.old) }
-    ensures { (result.n ≤ p.n + 1) × Further p result out.old out.new (x ∷ []) }
+// Takes an ASCII character. This and the others below write at `n`, and return the place behind what they wrote.
+fn push_ascii(x: u8, out: &mut [u8], n: usize, marks: &mut Marks) -> usize
+    requires { (x < 0x80) × (n < length out.old) }
+    ensures { (result ≤ n + 1) × Further n marks.old result marks.new out.old out.new (x ∷ []) }
 {
-    out[p.n] = x;
-    Progress {
-        n: p.n + 1,
-        class: 0,
-        ..p
-    }
+    out[n] = x;
+    marks.class = 0;
+    n + 1
 }
 
 // Takes a code point that is no tone mark.
-fn push_kept(x: u16, out: &mut [u8], p: Progress) -> Progress
-    requires { (is_tone_mark x ≡ false) × (p.n + 3 ≤ length out.old) }
-    ensures { (result.n ≤ p.n + 3) × Further p result out.old out.new (x ∷ []) }
+fn push_kept(x: u16, out: &mut [u8], n: usize, marks: &mut Marks) -> usize
+    requires { (is_tone_mark x ≡ false) × (n + 3 ≤ length out.old) }
+    ensures { (result ≤ n + 3) × Further n marks.old result marks.new out.old out.new (x ∷ []) }
 {
     let class = nfd::class_of(x);
-    let sorted = p.sorted && (class == 0 || p.class <= class);
-    Progress {
-        n: utf8::put_point(x as u32, out, p.n),
-        class,
-        sorted,
-        ..p
-    }
+    let sorted = marks.sorted && (class == 0 || marks.class <= class);
+    marks.sorted = sorted;
+    marks.class = class;
+    utf8::put_point(x as u32, out, n)
 }
 
 // Takes a code point that decomposes no further.
-fn push(x: u16, out: &mut [u8], p: Progress) -> Progress
-    requires { p.n + 3 ≤ length out.old }
-    ensures { (result.n ≤ p.n + 3) × Further p result out.old out.new (x ∷ []) }
+fn push(x: u16, out: &mut [u8], n: usize, marks: &mut Marks) -> usize
+    requires { n + 3 ≤ length out.old }
+    ensures { (result ≤ n + 3) × Further n marks.old result marks.new out.old out.new (x ∷ []) }
 {
     let tone = mark_tone(x);
     if tone.is_tone() {
-        return Progress { tone, ..p };
+        marks.tone = tone;
+        return n;
     }
-    push_kept(x, out, p)
+    push_kept(x, out, n, marks)
 }
 
 // Takes the decomposition of a code point. Most are ASCII here, and decompose no further.
-fn push_first(a: u16, out: &mut [u8], p: Progress) -> Progress
-    requires { p.n + 6 ≤ length out.old }
-    ensures { (result.n ≤ p.n + 6) × Further p result out.old out.new (decomposition unicode16 a) }
+fn push_first(a: u16, out: &mut [u8], n: usize, marks: &mut Marks) -> usize
+    requires { n + 6 ≤ length out.old }
+    ensures { (result ≤ n + 6) × Further n marks.old result marks.new out.old out.new (decomposition unicode16 a) }
 {
     if a < 0x80 {
-        return push_ascii(a as u8, out, p);
+        return push_ascii(a as u8, out, n, marks);
     }
     match ucd::decomposition(a) {
-        Mapping::Itself => push(a, out, p),
-        Mapping::One(x) => push(x, out, p),
+        Mapping::Itself => push(a, out, n, marks),
+        Mapping::One(x) => push(x, out, n, marks),
         Mapping::Two(x, y) => {
-            let q = push(x, out, p);
-            push(y, out, q)
+            let m = push(x, out, n, marks);
+            push(y, out, m, marks)
         }
     }
 }
@@ -145,36 +139,34 @@ pub(crate) fn letter(c: u16) -> Option<MarkedLetter>
 }
 
 // Takes the full decomposition of a code point.
-fn push_decomposed(c: u16, out: &mut [u8], p: Progress) -> Progress
-    requires { p.n + 9 ≤ length out.old }
-    ensures { (result.n ≤ p.n + 9) × Further p result out.old out.new (full unicode16 (c ∷ [])) }
+fn push_decomposed(c: u16, out: &mut [u8], n: usize, marks: &mut Marks) -> usize
+    requires { n + 9 ≤ length out.old }
+    ensures { (result ≤ n + 9) × Further n marks.old result marks.new out.old out.new (full unicode16 (c ∷ [])) }
 {
     if let Some(letter) = letter(c) {
-        let q = push_ascii(letter.ascii, out, p);
-        return Progress {
-            tone: letter.tone,
-            ..q
-        };
+        let m = push_ascii(letter.ascii, out, n, marks);
+        marks.tone = letter.tone;
+        return m;
     }
     match ucd::decomposition(c) {
-        Mapping::Itself => push(c, out, p),
-        Mapping::One(a) => push(a, out, p),
+        Mapping::Itself => push(c, out, n, marks),
+        Mapping::One(a) => push(a, out, n, marks),
         Mapping::Two(a, b) => {
-            let q = push_first(a, out, p);
-            push(b, out, q)
+            let m = push_first(a, out, n, marks);
+            push(b, out, m, marks)
         }
     }
 }
 
 // The same. U+0358 is its own decomposition and no tone mark, and most texts that hold a mark of another kind hold this one.
-fn push_point(c: u16, out: &mut [u8], p: Progress) -> Progress
-    requires { p.n + 9 ≤ length out.old }
-    ensures { (result.n ≤ p.n + 9) × Further p result out.old out.new (full unicode16 (c ∷ [])) }
+fn push_point(c: u16, out: &mut [u8], n: usize, marks: &mut Marks) -> usize
+    requires { n + 9 ≤ length out.old }
+    ensures { (result ≤ n + 9) × Further n marks.old result marks.new out.old out.new (full unicode16 (c ∷ [])) }
 {
     if c == 0x0358 {
-        return push_kept(c, out, p);
+        return push_kept(c, out, n, marks);
     }
-    push_decomposed(c, out, p)
+    push_decomposed(c, out, n, marks)
 }
 
 // The stripped text of `s`, in UTF-8, written to the front of `out`: its length, and the tone of its last mark, Tone::None where it has none. Each turn
@@ -184,8 +176,8 @@ pub(crate) fn walk(s: &[u8], out: &mut [u8]) -> Option<(ByteLen, Tone)>
     ensures { Walked s.now out.old out.new result }
 {
     let mut i: usize = 0;
-    let mut p = Progress {
-        n: 0,
+    let mut n: usize = 0;
+    let mut marks = Marks {
         tone: Tone::None,
         class: 0,
         sorted: true,
@@ -193,16 +185,16 @@ pub(crate) fn walk(s: &[u8], out: &mut [u8]) -> Option<(ByteLen, Tone)>
     while i < s.len() {
         let a = s[i];
         if a < 0x80 {
-            p = push_ascii(a, out, p);
+            n = push_ascii(a, out, n, &mut marks);
             i += 1;
         } else {
             let sequence = utf8::read(s, i)?;
-            if out.len() < p.n + (s.len() - i) + 9 || !ucd::is_member(sequence.point) {
+            if out.len() < n + (s.len() - i) + 9 || !ucd::is_member(sequence.point) {
                 return None;
             }
-            p = push_point(sequence.point as u16, out, p);
+            n = push_point(sequence.point as u16, out, n, &mut marks);
             i += sequence.width;
         }
     }
-    p.sorted.then_some((ByteLen(p.n), p.tone))
+    marks.sorted.then_some((ByteLen(n), marks.tone))
 }

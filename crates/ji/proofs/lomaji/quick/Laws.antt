@@ -23,7 +23,7 @@ use Rattle.ji.specs.Lomaji.Quick.{IsLetter, Stripping, Further, Walked}
 use Rattle.ji.specs.declared.tone.Tone.{Tone}
 use Rattle.ji.specs.declared.tone.Tone.TheVariants.{None}
 use Rattle.ji.specs.declared.lomaji.quick.MarkedLetter.{MarkedLetter}
-use Rattle.ji.specs.declared.lomaji.quick.Progress.{Progress}
+use Rattle.ji.specs.declared.lomaji.quick.Marks.{Marks}
 use Rattle.std.specs.Prelude.{Some}
 use Rattle.ji.proofs.Bools.{either}
 use Rattle.ji.proofs.Writing.{written_none, written_one, written_run, written_length}
@@ -124,13 +124,13 @@ low_no_mark x h =
     mark_is x ∙ ap is_tone (sym (no_mark x (differs 0x0301 (omega arith), (differs 0x0300 (omega arith), (differs 0x0302 (omega arith), (differs 0x0303 (omega arith), (differs 0x0304 (omega arith), (differs 0x030D (omega arith), (differs 0x0306 (omega arith), tt)))))))))
 
 -- ── the steps
-pub stripping_start : (before : List ℕ) → Stripping before before (record { n = 0; tone = None; class = 0; sorted = true }) []
+pub stripping_start : (before : List ℕ) → Stripping before before 0 (record { tone = None; class = 0; sorted = true }) []
 unfolding without_marks dropped_marks last_tone encode
 stripping_start before = record { written = written_none before; tone = refl; order = λ e c f. (tt, tt) }
 
-module _ (before after : List ℕ) (p : Progress) (s : List ℕ) (h : Stripping before after p s) (x : ℕ) where
+module _ (before after : List ℕ) (n : ℕ) (p : Marks) (s : List ℕ) (h : Stripping before after n p s) (x : ℕ) where
   -- a tone mark is only remembered
-  pub stripping_mark : is_tone_mark x ≡ true → (tone : Tone) → tone ≡ mark_tone x → Stripping before after (record p { tone = tone }) (s ++ (x ∷ []))
+  pub stripping_mark : is_tone_mark x ≡ true → (tone : Tone) → tone ≡ mark_tone x → Stripping before after n (record p { tone = tone }) (s ++ (x ∷ []))
   stripping_mark e tone is =
       record {
         written = rw (without_last_mark s x e) h.written;
@@ -139,8 +139,8 @@ module _ (before after : List ℕ) (p : Progress) (s : List ℕ) (h : Stripping 
       }
 
   -- anything else is written
-  module _ (e : is_tone_mark x ≡ false) (after' : List ℕ) (n : ℕ) (w : Written before after' n (encode (without_marks s ++ (x ∷ [])))) where
-    kept : Written before after' n (encode (without_marks (s ++ (x ∷ []))))
+  module _ (e : is_tone_mark x ≡ false) (after' : List ℕ) (n' : ℕ) (w : Written before after' n' (encode (without_marks s ++ (x ∷ [])))) where
+    kept : Written before after' n' (encode (without_marks (s ++ (x ∷ []))))
     kept = rw (without_last s x e) w
 
     tone_stays : p.tone ≡ last_tone None (dropped_marks (s ++ (x ∷ [])))
@@ -148,7 +148,7 @@ module _ (before after : List ℕ) (p : Progress) (s : List ℕ) (h : Stripping 
 
     -- in order if the text is still sorted
     pub stripping_behind : (class : ℕ) → class ≡ combining_class unicode16 x → (sorted : Bool) → (sorted ≡ true → (p.sorted ≡ true) × ((class ≡ 0) ⊎ (p.class ≤ class)))
-        → Stripping before after' (record p { n = n; class = class; sorted = sorted }) (s ++ (x ∷ []))
+        → Stripping before after' n' (record p { class = class; sorted = sorted }) (s ++ (x ∷ []))
     stripping_behind class is sorted k =
         record {
           written = kept;
@@ -157,24 +157,24 @@ module _ (before after : List ℕ) (p : Progress) (s : List ℕ) (h : Stripping 
         }
 
   -- the bytes of one more code point, and of an ASCII character
-  pub written_point : p.n + length (bytes_of x) ≤ length before → Written before (paste after p.n (bytes_of x) (length (bytes_of x))) (p.n + length (bytes_of x)) (encode (without_marks s ++ (x ∷ [])))
+  pub written_point : n + length (bytes_of x) ≤ length before → Written before (paste after n (bytes_of x) (length (bytes_of x))) (n + length (bytes_of x)) (encode (without_marks s ++ (x ∷ [])))
   written_point room = rw (encode_more (without_marks s) x) (written_run h.written (bytes_of x) room)
 
-  pub written_ascii : x ≤ 0x7F → p.n < length before → Written before (set after p.n x) (p.n + 1) (encode (without_marks s ++ (x ∷ [])))
+  pub written_ascii : x ≤ 0x7F → n < length before → Written before (set after n x) (n + 1) (encode (without_marks s ++ (x ∷ [])))
   written_ascii k room = rw (encode_more (without_marks s) x, bytes_one x k) (written_one h.written x room)
 
   -- an ASCII character
-  pub stripping_ascii : x < 0x80 → p.n < length after → Stripping before (set after p.n x) (record p { n = p.n + 1; class = 0 }) (s ++ (x ∷ []))
+  pub stripping_ascii : x < 0x80 → n < length after → Stripping before (set after n x) (n + 1) (record p { class = 0 }) (s ++ (x ∷ []))
   stripping_ascii k room =
       let size : length after ≡ length before = written_length h.written in
-      stripping_behind (low_no_mark x (omega arith)) (set after p.n x) (p.n + 1) (written_ascii (omega arith) (omega arith)) 0 (sym (low_starter x (omega arith))) p.sorted (λ z. (z, inl refl))
+      stripping_behind (low_no_mark x (omega arith)) (set after n x) (n + 1) (written_ascii (omega arith) (omega arith)) 0 (sym (low_starter x (omega arith))) p.sorted (λ z. (z, inl refl))
 
 -- two steps, one after the other, and a step that takes the same text
-module _ {p q r : Progress} {entry middle exit u v : List ℕ} where
-  pub further_both : Further p q entry middle u → Further q r middle exit v → Further p r entry exit (u ++ v)
+module _ {i j k : ℕ} {p q r : Marks} {entry middle exit u v : List ℕ} where
+  pub further_both : Further i p j q entry middle u → Further j q k r middle exit v → Further i p k r entry exit (u ++ v)
   further_both f g before s h = rw (← append_assoc s u v) (g before (s ++ u) (f before s h))
 
-pub further_same : {p q : Progress} {entry exit u v : List ℕ} → u ≡ v → Further p q entry exit u → Further p q entry exit v
+pub further_same : {n m : ℕ} {p q : Marks} {entry exit u v : List ℕ} → u ≡ v → Further n p m q entry exit u → Further n p m q entry exit v
 further_same e f before s h = rw (← e) (f before s h)
 
 -- a letter of the short lookup, at its code point k
@@ -200,54 +200,54 @@ pub letter_full : (c : ℕ) (x : MarkedLetter) (l : IsLetter c x) → x.ascii �
 letter_full c x l = sym (full_two c x.ascii l.0 l.1 ∙ ap (λ (u : List ℕ). u ++ (l.0 ∷ [])) (low_atom x.ascii (omega (arith, l.2))))
 
 -- ── the end: what was stripped is the stripped NFD
-module _ (before after : List ℕ) (p : Progress) (u : List ℕ) (h : Stripping before after p (full unicode16 u)) where
+module _ (before after : List ℕ) (n : ℕ) (p : Marks) (u : List ℕ) (h : Stripping before after n p (full unicode16 u)) where
   sorted_rest : p.sorted ≡ true → without_marks (nfd unicode16 u) ≡ without_marks (full unicode16 u)
   sorted_rest e =
       let q : combining_class unicode16 0 ≡ 0 = low_starter 0 (omega arith) in
       nfd_without u (ordered_before unicode16 (without_marks (full unicode16 u)) 0 (h.order e 0 (inl q)))
 
-  stripped_bytes : p.sorted ≡ true → Written before after p.n (encode (without_marks (nfd unicode16 u)))
+  stripped_bytes : p.sorted ≡ true → Written before after n (encode (without_marks (nfd unicode16 u)))
   stripped_bytes e = rw (sorted_rest e) h.written
 
   stripped_tone : p.tone ≡ last_tone None (dropped_marks (nfd unicode16 u))
   stripped_tone = h.tone ∙ ap (last_tone None) (sym (nfd_dropped u))
 
 -- ── the loop: the first i bytes of s are read and stripped, and there is room for the others, were they ASCII
-pub record Walking (s before out : List ℕ) (i : ℕ) (p : Progress) : Type 0 where
+pub record Walking (s before out : List ℕ) (i n : ℕ) (p : Marks) : Type 0 where
   pub inside : i ≤ length s
-  pub room : p.n + (length s - i) ≤ length before
+  pub room : n + (length s - i) ≤ length before
   pub text : List ℕ
   pub taken : Taken unicode16 s text i
-  pub stripping : Stripping before out p (full unicode16 text)
+  pub stripping : Stripping before out n p (full unicode16 text)
 
 -- ASCII decomposes no further
 pub ascii_full : (x : ℕ) → x < 0x80 → full unicode16 (x ∷ []) ≡ x ∷ []
 ascii_full x h = full_itself x (low_atom x (omega arith))
 
 module _ (s before : List ℕ) where
-  pub walking_start : length s ≤ length before → Walking s before before 0 (record { n = 0; tone = None; class = 0; sorted = true })
+  pub walking_start : length s ≤ length before → Walking s before before 0 0 (record { tone = None; class = 0; sorted = true })
   walking_start fit =
       record { inside = omega arith; room = omega arith; text = []; taken = taken_start unicode16 s; stripping = rw (full_nil unicode16) (stripping_start before) }
 
-  module _ (out : List ℕ) (i : ℕ) (p : Progress) (r : Walking s before out i p) where
+  module _ (out : List ℕ) (i n : ℕ) (p : Marks) (r : Walking s before out i n p) where
     -- a turn that reads a sequence of width w and code point x
     pub walking_more : i < length s → (w x : ℕ) → SequenceOf (drop i s) w x → member unicode16 x ≡ true
-        → (q : Progress) (out' : List ℕ) → Further p q out out' (full unicode16 (x ∷ [])) → q.n + (length s - (i + w)) ≤ length before → Walking s before out' (i + w) q
-    walking_more h w x read m q out' step room =
+        → (m : ℕ) (q : Marks) (out' : List ℕ) → Further n p m q out out' (full unicode16 (x ∷ [])) → m + (length s - (i + w)) ≤ length before → Walking s before out' (i + w) m q
+    walking_more h w x read mem m q out' step room =
         let wide : w ≡ width_at (drop i s) = read.wide in
         let point : x ≡ point_at (drop i s) = read.read in
         record {
           inside = omega (arith, width_within s i h);
           room = room;
           text = r.text ++ (x ∷ []);
-          taken = rw (point, wide) (taken_more unicode16 s r.text i r.taken h (omega (arith, wide, read.some)) (ap (member unicode16) (sym point) ∙ m));
+          taken = rw (point, wide) (taken_more unicode16 s r.text i r.taken h (omega (arith, wide, read.some)) (ap (member unicode16) (sym point) ∙ mem));
           stripping = rw (full_append unicode16 r.text (x ∷ [])) (step before (full unicode16 r.text) r.stripping);
         }
 
-    pub walking_end : length s ≤ i → p.sorted ≡ true → Walked s before out (Some (record { 0 = p.n }, p.tone))
+    pub walking_end : length s ≤ i → p.sorted ≡ true → Walked s before out (Some (record { 0 = n }, p.tone))
     walking_end h e = (
       r.text,
       taken_end unicode16 s r.text i r.taken h,
-      stripped_bytes before out p r.text r.stripping e,
-      stripped_tone before out p r.text r.stripping,
+      stripped_bytes before out n p r.text r.stripping e,
+      stripped_tone before out n p r.text r.stripping,
     )

@@ -15,4 +15,4 @@ pub returns-in-One : goal.returns-in-One
 returns-in-One c = let w = c.push-in-One in let a = c.args in (omega (arith, w.ensures.0), further_same (sym (told a.a c.decomposition.ensures.text c.in-One.is)) w.ensures.1)
 
 pub returns-in-Two : goal.returns-in-Two
-returns-in-Two c = let w = c.push-in-Two in let v = c.push-q in let a = c.args in (omega (arith, v.ensures.0, w.ensures.0), further_same (sym (told a.a c.decomposition.ensures.text c.in-Two.is)) (further_both v.ensures.1 w.ensures.1))
+returns-in-Two c = let w = c.push-in-Two in let v = c.push-m in let a = c.args in (omega (arith, v.ensures.0, w.ensures.0), further_same (sym (told a.a c.decomposition.ensures.text c.in-Two.is)) (further_both v.ensures.1 w.ensures.1))

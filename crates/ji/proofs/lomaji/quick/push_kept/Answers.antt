@@ -12,28 +12,28 @@ use Rattle.ji.specs.Written.{Written}
 use Rattle.ji.specs.Utf8.{bytes_of, encode}
 use Rattle.ji.specs.Lomaji.Strip.{is_tone_mark, without_marks}
 use Rattle.ji.specs.Lomaji.Quick.{Stripping, Further}
-use Rattle.ji.specs.declared.lomaji.quick.Progress.{Progress}
+use Rattle.ji.specs.declared.lomaji.quick.Marks.{Marks}
 use Rattle.ji.proofs.Bools.{false_true}
 use Rattle.ji.proofs.Writing.{written_length}
 use Rattle.ji.proofs.utf8.Encoding.{bytes_most}
 use Rattle.ji.proofs.lomaji.quick.Laws.{written_point, stripping_behind}
 use native.Mathlib.Omega.{arith}
 use Rattle.ji.proofs.lomaji.quick.push_kept.Goals as goal
-use Rattle.ji.proofs.lomaji.quick.push_kept.Goals.{then-p+then-class-eq0, then-p+else-class-eq0, else-p}
+use Rattle.ji.proofs.lomaji.quick.push_kept.Goals.{then-marks+then-class-eq0, then-marks+else-class-eq0, else-marks}
 
 -- the bytes of the code point are written
-module _ (p : Progress) (x : ℕ) (small : x ≤ 0xFFFF) (out out' : List ℕ) (r : ℕ) (er : r ≡ p.n + length (bytes_of x)) (eo : out' ≡ paste out p.n (bytes_of x) (length (bytes_of x))) (room : p.n + 3 ≤ length out) where
-  few : r ≤ p.n + 3
+module _ (n : ℕ) (p : Marks) (x : ℕ) (small : x ≤ 0xFFFF) (out out' : List ℕ) (r : ℕ) (er : r ≡ n + length (bytes_of x)) (eo : out' ≡ paste out n (bytes_of x) (length (bytes_of x))) (room : n + 3 ≤ length out) where
+  few : r ≤ n + 3
   few = omega (arith, bytes_most x small)
 
-  wrote : (before s : List ℕ) → Stripping before out p s → Written before out' r (encode (without_marks s ++ (x ∷ [])))
+  wrote : (before s : List ℕ) → Stripping before out n p s → Written before out' r (encode (without_marks s ++ (x ∷ [])))
   wrote before s h =
       let size : length out ≡ length before = written_length h.written in
-      rw (er, eo) (written_point before out p s h x (omega (arith, bytes_most x small)))
+      rw (er, eo) (written_point before out n p s h x (omega (arith, bytes_most x small)))
 
   mark : is_tone_mark x ≡ false → (class : ℕ) → class ≡ combining_class unicode16 x → (sorted : Bool) → (sorted ≡ true → (p.sorted ≡ true) × ((class ≡ 0) ⊎ (p.class ≤ class)))
-      → (r ≤ p.n + 3) × Further p (record p { n = r; class = class; sorted = sorted }) out out' (x ∷ [])
-  mark kept class is sorted k = (few, λ before s h. stripping_behind before out p s h x kept _ r (wrote before s h) class is sorted k)
+      → (r ≤ n + 3) × Further n p r (record p { class = class; sorted = sorted }) out out' (x ∷ [])
+  mark kept class is sorted k = (few, λ before s h. stripping_behind before out n p s h x kept _ r (wrote before s h) class is sorted k)
 
 pub put_point-requires : goal.put_point-requires
 put_point-requires c = let small : c.args.x ≤ 0xFFFF = omega arith in (small, omega (arith, bytes_most c.args.x small))
@@ -43,10 +43,10 @@ returns c =
     let a = c.args in
     let w = c.put_point in
     let class = c.class_of-class.result in
-    let k : c.if-p.sorted ≡ true → (a.p.sorted ≡ true) × ((class ≡ 0) ⊎ (a.p.class ≤ class)) =
-    elim c.if-p.branch [
-      | then-p+then-class-eq0 w ↦ λ z. (w.if-p.true, inl w.if-class-eq0.true)
-      | then-p+else-class-eq0 w ↦ λ z. (w.if-p.true, inr (leb-true _ _ (sym w.sorted-is ∙ z)))
-      | else-p w ↦ λ z. absurd (false_true (sym w.if-p.false ∙ sym w.sorted-is ∙ z))
+    let k : c.if-marks.sorted ≡ true → (a.marks.now.sorted ≡ true) × ((class ≡ 0) ⊎ (a.marks.now.class ≤ class)) =
+    elim c.if-marks.branch [
+      | then-marks+then-class-eq0 w ↦ λ z. (w.if-marks.true, inl w.if-class-eq0.true)
+      | then-marks+else-class-eq0 w ↦ λ z. (w.if-marks.true, inr (leb-true _ _ (sym w.sorted-is ∙ z)))
+      | else-marks w ↦ λ z. absurd (false_true (sym w.if-marks.false ∙ sym w.sorted-is ∙ z))
     ] in
-    mark a.p a.x (omega (arith, c.ranges.x)) a.out.now _ w.result w.ensures.0 w.ensures.1 c.requires.1 c.requires.0 class c.class_of-class.ensures c.if-p.sorted k
+    mark a.n a.marks.now a.x (omega (arith, c.ranges.x)) a.out.now _ w.result w.ensures.0 w.ensures.1 c.requires.1 c.requires.0 class c.class_of-class.ensures c.if-marks.sorted k
