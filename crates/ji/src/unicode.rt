@@ -202,8 +202,7 @@ fn short_points(text: &[u8], out: &mut [u16]) -> Result<CharLen, Refusal>
 {
     let mut read = [0u16; 24];
     let len = decode(text, false, &mut read)?;
-    let n = len.0;
-    place_points(&read[0..n], out)
+    place_points(&read[..len.0], out)
 }
 
 // The code points of any text, counted first, so that a refusal writes nothing.
@@ -237,7 +236,7 @@ pub fn code_points(text: &[u8], out: &mut [u16]) -> Result<CharLen, Refusal>
 fn check_points(s: &[u8]) -> Result<(), Refusal>
     ensures { result ≡ verdict_of (check_points unicode16 (decode s.now)) }
 {
-    let _ = count_points(s)?;
+    count_points(s)?;
     Ok(())
 }
 
@@ -291,6 +290,5 @@ pub(crate) fn to_byte_len(s: &[u16], chars: CharLen) -> ByteLen
     requires { (chars.0 ≤ length s.now) × (length s.now ≤ 65536) }
     ensures { result.0 ≡ to_byte_len s.now chars.0 }
 {
-    let n = chars.0;
-    utf8::encoded_len(&s[0..n])
+    utf8::encoded_len(&s[..chars.0])
 }
