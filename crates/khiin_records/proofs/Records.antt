@@ -110,6 +110,19 @@ unfolding key_tone last
 toned_some [] h = absurd (false_true h)
 toned_some (x ∷ s) h = omega arith
 
+-- what is no tone is None
+none_is : (t : Tone) → is_tone t ≡ false → t ≡ None
+none_is None h = refl
+none_is T1 h = absurd (false_true (sym h))
+none_is T2 h = absurd (false_true (sym h))
+none_is T3 h = absurd (false_true (sym h))
+none_is T4 h = absurd (false_true (sym h))
+none_is T5 h = absurd (false_true (sym h))
+none_is T6 h = absurd (false_true (sym h))
+none_is T7 h = absurd (false_true (sym h))
+none_is T8 h = absurd (false_true (sym h))
+none_is T9 h = absurd (false_true (sym h))
+
 module _ (s : List ℕ) where
   -- the two cases of from_raw
   raw_toned : is_tone (key_tone (last s)) ≡ true → from_raw s ≡ record { body = but_last 1 s; keys = last s ∷ []; tone = key_tone (last s); khin = No }
@@ -141,15 +154,15 @@ module _ (s : List ℕ) where
           khin = sym (ap (λ (r : Syllable). r.khin) f);
         }
 
-    pub bare_record : is_tone (key_tone (last s)) ≡ false
-        → RecordOf 0 (from_raw s) (length s) (record { len = record { 0 = length s }; count = 0; body = record { 0 = length s }; tone = None; khin = No })
-    bare_record k =
-        let f = raw_bare k in
+    pub bare_record : (t : Tone) → t ≡ key_tone (last s) → is_tone t ≡ false
+        → RecordOf 0 (from_raw s) (length s) (record { len = record { 0 = length s }; count = 0; body = record { 0 = length s }; tone = t; khin = No })
+    bare_record t e k =
+        let f = raw_bare (ap is_tone (sym e) ∙ k) in
         record {
           len = refl;
           count_is = refl;
           body = sym (ap (λ (r : Syllable). length (encode r.body)) f ∙ ap length (ascii_bytes s h));
-          tone = sym (ap (λ (r : Syllable). r.tone) f);
+          tone = none_is t k ∙ sym (ap (λ (r : Syllable). r.tone) f);
           khin = sym (ap (λ (r : Syllable). r.khin) f);
         }
 

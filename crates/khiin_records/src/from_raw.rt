@@ -29,15 +29,14 @@ fn key_tone(key: u8) -> Tone
     }
 }
 
-// The last key, and 0 where there is none.
-fn last_key(s: &[u8]) -> u8
-    ensures { result ≡ last s.now }
+// The tone that the last of the keys is. Where there are none it is None as well.
+fn last_tone(s: &[u8]) -> Tone
+    ensures { result ≡ key_tone (last s.now) }
 {
-    let n = s.len();
-    if n == 0 {
-        return 0;
+    match s {
+        [.., key] => key_tone(*key),
+        [] => Tone::None,
     }
-    s[n - 1]
 }
 
 // The record of the keys `s`, which are ASCII. The last one is the tone and leaves the body, where it is one of 1 to 9.
@@ -45,21 +44,13 @@ fn record_of(s: &[u8]) -> Record
     ensures { all_ascii s.now ≡ true → RecordOf 0 (from_raw s.now) (length s.now) result }
 {
     let n = s.len();
-    let tone = key_tone(last_key(s));
-    if tone.is_tone() {
-        return Record {
-            len: ByteLen(n),
-            count: 0,
-            body: ByteLen(n - 1),
-            tone: tone,
-            khin: Khin::No,
-        };
-    }
+    let tone = last_tone(s);
+    let body = if tone.is_tone() { n - 1 } else { n };
     Record {
         len: ByteLen(n),
         count: 0,
-        body: ByteLen(n),
-        tone: Tone::None,
+        body: ByteLen(body),
+        tone,
         khin: Khin::No,
     }
 }
@@ -68,10 +59,8 @@ fn record_of(s: &[u8]) -> Record
 pub(crate) fn place_keys(keys: &[u8], out: &mut [u8]) -> Result<Record, Refusal>
     ensures { all_ascii keys.now ≡ true → record_reply result out.new ≡ placed_record 0 (from_raw keys.now) out.old }
 {
-    match reply::place_bytes(keys, out) {
-        Err(why) => Err(why),
-        Ok(_) => Ok(record_of(keys)),
-    }
+    reply::place_bytes(keys, out)?;
+    Ok(record_of(keys))
 }
 
 // The record of `keys`.

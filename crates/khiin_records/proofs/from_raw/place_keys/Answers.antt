@@ -1,3 +1,4 @@
+use Rattle.std.proofs.lemmas.Result.{err_from_is_err_and}
 use mathlib.Core.Path.{◌≡◌, sym, ap, ◌∙◌}
 use mathlib.Core.Bool.{true}
 use mathlib.Core.List.{List}
@@ -16,19 +17,15 @@ use Rattle.ji.specs.declared.reply.Refusal.{Refusal}
 raw_bytes : (s : List ℕ) → all_ascii s ≡ true → encode (raw (from_raw s)) ≡ s
 raw_bytes s h = ap encode (raw_is s) ∙ ascii_bytes s h
 
-pub returns-in-Err : goal.returns-in-Err
-returns-in-Err c =
-    let d = c.place_bytes in
+pub returns-in_err-place_bytes : goal.returns-in_err-place_bytes
+returns-in_err-place_bytes c =
+    let p = err_from_is_err_and c.from_residual.result c.from_residual.ensures.1 in
     let a = c.args in
-    λ h.
-    record_refused 0 (from_raw a.keys.now) a.keys.now a.out.now (raw_bytes a.keys.now h) c.in-Err.why d.new.out
-    (ap (λ (x : Result ByteLen Refusal). text_reply x d.new.out) (sym c.in-Err.is) ∙ d.ensures)
+    rw (p.1, p.2) (λ h. record_refused 0 (from_raw a.keys.now) a.keys.now a.out.now (raw_bytes a.keys.now h) c.in_err-place_bytes.field-0.0 c.place_bytes.new.out c.in_err-place_bytes.ensures)
 
-pub returns-in-Ok : goal.returns-in-Ok
-returns-in-Ok c =
-    let d = c.place_bytes in
+pub returns : goal.returns
+returns c =
     let a = c.args in
-    let told = ap (λ (x : Result ByteLen Refusal). text_reply x d.new.out) (sym c.in-Ok.is) ∙ d.ensures in
-    let n = written_size c.in-Ok.field-0.0 a.keys.now d.new.out a.out.now told in
-    λ h.
-    record_done 0 (from_raw a.keys.now) a.keys.now a.out.now (raw_bytes a.keys.now h) c.in-Ok.field-0.0 d.new.out c.record_of.result told (rw n (c.record_of.ensures h))
+    let told = c.in_ok-place_bytes.ensures in
+    let n = written_size c.in_ok-place_bytes.field-0.0 a.keys.now c.place_bytes.new.out a.out.now told in
+    λ h. record_done 0 (from_raw a.keys.now) a.keys.now a.out.now (raw_bytes a.keys.now h) c.in_ok-place_bytes.field-0.0 c.place_bytes.new.out c.record_of.result told (rw n (c.record_of.ensures h))
