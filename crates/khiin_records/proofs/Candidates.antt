@@ -38,7 +38,7 @@ use Rattle.ji.proofs.lomaji.dot.Laws.{dot_listed}
 use Rattle.ji.proofs.unicode.Ascii.{ascii_bytes}
 use Rattle.khiin_records.proofs.Records.{digit_ascii, khin_ascii, record_done, candidates_two, candidates_one}
 use Rattle.khiin_records.proofs.RawBytes.{body_is}
-use Rattle.std.specs.Prelude.{Ok}
+use Rattle.std.specs.Prelude.{Ok, Some, None}
 
 -- ── the call, once the text is checked
 pub candidate_refused : (text : List ℕ) (position : ℕ) (buffer : List ℕ) (why : Refusal) → check_text unicode16 text ≡ bad why → refused why buffer ≡ candidate_call unicode16 text position buffer
@@ -66,29 +66,29 @@ some_points text [] e h = absurd (omega (arith, ap length (sym encode_nil ∙ e)
 some_points text (c ∷ u) e h = omega arith
 
 -- ── the quick way
-vowel_low : (dotted : Bool) (n : ℕ) → vowel_at dotted n < 0x80
-vowel_low dotted zero = omega arith
-vowel_low true (suc zero) = omega arith
-vowel_low false (suc zero) = omega arith
-vowel_low dotted (suc (suc n)) = omega arith
+vowel_low : (dotted : Bool) (n vowel : ℕ) → vowel_at dotted n ≡ Some vowel → vowel < 0x80
+vowel_low dotted zero vowel e = let f : point "u" ≡ vowel = cc in omega arith
+vowel_low true (suc zero) vowel e = let f : point "o" ≡ vowel = cc in omega arith
+vowel_low false (suc zero) vowel e = cc
+vowel_low dotted (suc (suc n)) vowel e = cc
 
 module _ (t : Tone) (k : Khin) (u : List ℕ) (buffer : List ℕ) where
   -- without a vowel there is no candidate at the position
-  pub no_vowel : (dotted : Bool) → listed u 0x0358 ≡ dotted → (n : ℕ) → vowel_at dotted n ≡ 0 → refused Position buffer ≡ candidate_in (candidates_of t k u) n buffer
-  no_vowel dotted e zero h = absurd (omega (arith, h))
-  no_vowel true e (suc zero) h = absurd (omega (arith, h))
+  pub no_vowel : (dotted : Bool) → listed u 0x0358 ≡ dotted → (n : ℕ) → vowel_at dotted n ≡ None → refused Position buffer ≡ candidate_in (candidates_of t k u) n buffer
+  no_vowel dotted e zero h = cc
+  no_vowel true e (suc zero) h = cc
   no_vowel false e (suc zero) h = rw (candidates_one t k u e) refl
   no_vowel true e (suc (suc n)) h = rw (candidates_two t k u e) refl
   no_vowel false e (suc (suc n)) h = rw (candidates_one t k u e) refl
 
   -- with one there is
-  by_vowel : (dotted : Bool) → listed u 0x0358 ≡ dotted → (n : ℕ) → (vowel_at dotted n ≡ 0 → ⊥)
-      → placed_record (count_of dotted) (candidate t k u (vowel_at dotted n ∷ [])) buffer ≡ candidate_in (candidates_of t k u) n buffer
-  by_vowel true e zero h = rw (candidates_two t k u e) refl
-  by_vowel false e zero h = rw (candidates_one t k u e) refl
-  by_vowel true e (suc zero) h = rw (candidates_two t k u e) refl
-  by_vowel false e (suc zero) h = absurd (h refl)
-  by_vowel dotted e (suc (suc n)) h = absurd (h refl)
+  pub by_vowel : (dotted : Bool) → listed u 0x0358 ≡ dotted → (n vowel : ℕ) → vowel_at dotted n ≡ Some vowel
+      → placed_record (count_of dotted) (candidate t k u (vowel ∷ [])) buffer ≡ candidate_in (candidates_of t k u) n buffer
+  by_vowel true e zero vowel h = let f : vowel ≡ point "u" = cc in rw (candidates_two t k u e, f) refl
+  by_vowel false e zero vowel h = let f : vowel ≡ point "u" = cc in rw (candidates_one t k u e, f) refl
+  by_vowel true e (suc zero) vowel h = let f : vowel ≡ point "o" = cc in rw (candidates_two t k u e, f) refl
+  by_vowel false e (suc zero) vowel h = cc
+  by_vowel dotted e (suc (suc n)) vowel h = cc
 
 -- the bytes of a candidate's body, and of its raw input
 module _ (t : Tone) (k : Khin) (u : List ℕ) (vowel : ℕ) (low : vowel < 0x80) where
@@ -136,18 +136,18 @@ module _ (t : Tone) (k : Khin) (u s : List ℕ) (e : s ≡ encode u) (buffer mid
   abbrev given : Record
   given = record { len = record { 0 = len }; count = count; body = record { 0 = n }; tone = t; khin = k }
 
-  pub quick_answer : vowel ≡ vowel_at (dot_in s) position → (vowel ≡ 0 → ⊥) → Written buffer mid n (body_of vowel s).text → n ≤ length s → count ≡ count_of (body_of vowel s).dotted
+  pub quick_answer : vowel_at (dot_in s) position ≡ Some vowel → Written buffer mid n (body_of vowel s).text → n ≤ length s → count ≡ count_of (body_of vowel s).dotted
       → len ≡ n + length (tone_digit t ++ khin_key k) → after ≡ paste mid n (tone_digit t ++ khin_key k) (length (tone_digit t ++ khin_key k)) → length s + 2 ≤ length buffer
       → record_reply (Ok given) after ≡ candidate_in (candidates_of t k u) position buffer
-  quick_answer is some w short counted size pasted room =
+  quick_answer is w short counted size pasted room =
       let dotted : listed u 0x0358 ≡ dot_in s = sym (ap dot_in e ∙ dot_listed u) in
-      let low : vowel < 0x80 = omega (arith, is, vowel_low (dot_in s) position) in
+      let low : vowel < 0x80 = vowel_low (dot_in s) position vowel is in
       let w' = subst (λ (l : List ℕ). Written buffer mid n (body_of vowel l).text) e w in
       let met : count ≡ count_of (dot_in s) = counted ∙ ap (λ (l : List ℕ). count_of (body_of vowel l).dotted) e ∙ ap (λ (b : Body). count_of b.dotted) (body_is vowel low u) ∙ ap count_of dotted in
       quick_done t k u vowel low buffer mid n w' after pasted (omega (arith, keys_few t k)) count given
       (record { len = size; count_is = refl; body = body_length t k u vowel low buffer mid n w'; tone = refl; khin = refl })
-      ∙ ap₂ (λ (c v : ℕ). placed_record c (candidate t k u (v ∷ [])) buffer) met is
-      ∙ by_vowel t k u buffer (dot_in s) dotted position (λ z. some (is ∙ z))
+      ∙ ap (λ (c : ℕ). placed_record c (candidate t k u (vowel ∷ [])) buffer) met
+      ∙ by_vowel t k u buffer (dot_in s) dotted position vowel is
 
 -- ── stripping always gives a tone
 abbrev Tones : List (ℕ × Tone) → Type 0

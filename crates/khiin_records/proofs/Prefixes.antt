@@ -6,7 +6,7 @@ use mathlib.Core.List.{List, [], ◌∷◌, ◌++◌, append_assoc, append-nil}
 use Prim.Native.Nat.{ℕ, suc, ◌+◌, ◌≤◌, ◌<◌}
 use native.Mathlib.Decide.{dec_le}
 use native.Mathlib.Omega.{arith}
-use borrow.Author.Tests.{eq-eqb, ne_eqb, eqb-true, eqb-false}
+use borrow.Author.Tests.{lt-ltb, le-ltb, le-leb, lt-leb, eq-eqb, ne_eqb, eqb-true, eqb-false}
 use lib.Dec.{leb, eqb}
 use lib.ListN.{length, take, drop, get_or, drop_of_length-le}
 use lib.Seq.{paste}
@@ -35,11 +35,25 @@ use Rattle.khiin_records.specs.Prefixes.{NearestPrefix}
 use Rattle.khiin_records.proofs.RawBytes.{from_copy, body_is}
 use Rattle.khiin_records.proofs.Records.{candidates_two, candidates_one}
 use Rattle.khiin_records.proofs.Candidates.{raw_bytes, keys_few}
+use Rattle.std.specs.Char.{to_ascii_lowercase, eq_ignore_ascii_case}
 
 -- ── a raw input that was written: the body, and the keys behind it
 pub raw_written : (t : Tone) (k : Khin) (before mid after : List ℕ) (n len : ℕ) (body : List ℕ) → Written before mid n body → len ≡ n + length (tone_digit t ++ khin_key k)
     → after ≡ paste mid n (tone_digit t ++ khin_key k) (length (tone_digit t ++ khin_key k)) → n + 2 ≤ length before → Written before after len (body ++ (tone_digit t ++ khin_key k))
 raw_written t k before mid after n len body w size is room = rw (size, is) (written_run w (tone_digit t ++ khin_key k) (omega (arith, keys_few t k)))
+
+-- ── the library's change of case
+lower_std : (x : ℕ) → lower x ≡ to_ascii_lowercase x
+unfolding lower
+lower_std x = by_place (dec_le 65 x) (dec_le x 90)
+  where
+    by_place : Dec (65 ≤ x) → Dec (x ≤ 90) → lower x ≡ to_ascii_lowercase x
+    by_place (no p) q = rw (lt-leb 65 x (omega arith), lt-ltb x 65 (omega arith)) refl
+    by_place (yes p) (yes q) = rw (le-leb 65 x p, le-leb x 90 q, le-ltb x 65 p, lt-ltb x 91 (omega arith)) refl
+    by_place (yes p) (no q) = rw (le-leb 65 x p, lt-leb x 90 (omega arith), le-ltb x 65 p, le-ltb x 91 (omega arith)) refl
+
+pub same_key : (k c : ℕ) → eqb (lower k) (lower c) ≡ eq_ignore_ascii_case k c
+same_key k c = ap₂ eqb (lower_std k) (lower_std c)
 
 -- ── turn by turn
 module _ (keys s : List ℕ) (i : ℕ) (more : i < length keys) (some : i < length s) where
@@ -254,13 +268,10 @@ digit_one : (t : Tone) → is_tone t ≡ true → tone_digit t ≡ (point "0" + 
 digit_one t e = text_yes (is_tone t) ((point "0" + tone_number t) ∷ []) [] e
 
 -- the keys behind a body, where it is known whether the first of them is shared
-pub digits_first : (keys : List ℕ) (at : ℕ) (t : Tone) (k : Khin) → is_tone t ≡ true → (x : ℕ) → x ≡ point "0" + tone_number t → (b : Bool)
+pub digits_first : (keys : List ℕ) (at : ℕ) (t : Tone) (k : Khin) (x : ℕ) → tone_digit t ≡ x ∷ [] → (b : Bool)
     → ((s : List ℕ) → shared_prefix (drop at keys) (x ∷ s) ≡ pick_number b (suc (shared_prefix (drop (at + 1) keys) s)) 0)
     → shared_prefix (drop at keys) (tone_digit t ++ khin_key k) ≡ pick_number b (suc (shared_prefix (drop (at + 1) keys) (khin_key k))) 0
-digits_first keys at t k some x is b f =
-    ap (λ (l : List ℕ). shared_prefix (drop at keys) (l ++ khin_key k)) (digit_one t some)
-    ∙ ap (λ (y : ℕ). shared_prefix (drop at keys) (y ∷ khin_key k)) (sym is)
-    ∙ f (khin_key k)
+digits_first keys at t k x is b f = ap (λ (l : List ℕ). shared_prefix (drop at keys) (l ++ khin_key k)) is ∙ f (khin_key k)
 
 -- whether the key at a place is the tone's digit, past the keys' end and before it
 module _ (keys : List ℕ) (n : ℕ) (t : Tone) (some : is_tone t ≡ true) where
@@ -268,9 +279,9 @@ module _ (keys : List ℕ) (n : ℕ) (t : Tone) (some : is_tone t ≡ true) wher
   unfolding same
   no_key h = ap₂ (λ (l d : List ℕ). same (take 1 l) d) (drop_of_length-le keys h) (digit_one t some)
 
-  pub key_is : n < length keys → same (take 1 (drop n keys)) (tone_digit t) ≡ eqb (get_or keys n 0) (point "0" + tone_number t)
+  pub key_is : (x : ℕ) → tone_digit t ≡ x ∷ [] → n < length keys → same (take 1 (drop n keys)) (tone_digit t) ≡ eqb (get_or keys n 0) x
   unfolding same
-  key_is h = ap₂ (λ (l d : List ℕ). same (take 1 l) d) (drop_next keys n h) (digit_one t some) ∙ and_true _
+  key_is x is h = ap₂ (λ (l d : List ℕ). same (take 1 l) d) (drop_next keys n h) is ∙ and_true _
 
   pub key_inside : same (take 1 (drop n keys)) (tone_digit t) ≡ true → n < length keys
   key_inside e = by_place (dec_le (length keys) n)

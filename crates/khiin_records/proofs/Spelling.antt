@@ -12,12 +12,19 @@ use Rattle.ji.specs.Lomaji.Keys.{respell}
 use Rattle.ji.proofs.Bools.{and_false, and_no}
 use Rattle.ji.proofs.unicode.Bytes.{listed_cons}
 use Rattle.ji.proofs.text.Laws.{replace_nil, replace_miss, replace_same_length, replace_other, points_first, points_second, points_other, points_growth}
+use Rattle.std.specs.List.{list_any}
 use Rattle.khiin_records.specs.Syllable.{below_rules, sign_rules}
 
 -- neither of two, where there is none of both
 either_no : (a b : Bool) → (a || b) ≡ false → (a ≡ false) × (b ≡ false)
 either_no true b e = absurd (let z : ◌≡◌ {A = ℕ} 0 1 = cc in omega arith)
 either_no false b e = (refl, e)
+
+-- the library's search
+pub listed_any : (s : List ℕ) (x : ℕ) → listed s x ≡ list_any (λ y. eqb y x) s
+unfolding listed
+listed_any [] x = refl
+listed_any (y ∷ s) x = ap (λ (t : Bool). eqb y x || t) (listed_any s x)
 
 -- ── a pair is not found where its second code point does not occur
 module _ (a b : ℕ) where

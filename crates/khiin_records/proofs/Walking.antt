@@ -15,7 +15,7 @@ use Rattle.ji.specs.Written.{Written}
 use Rattle.ji.proofs.Bools.{false_true, and_left, and_no, and_false}
 use Rattle.ji.proofs.Writing.{written_none, written_one, written_run, written_drop, written_length, stores_2}
 use Rattle.ji.proofs.text.Laws.{drop_next, begins_length, begins_short}
-use Rattle.khiin_records.specs.RawBytes.{takes_below, first_of, second_of, dot, nasal, below, Body, body_from, body_of, count_of, byte_before, vowel_at, Walking}
+use Rattle.khiin_records.specs.RawBytes.{takes_below, first_of, second_of, dot, nasal, below, Body, body_from, body_of, count_of, byte_before, Walking}
 use Rattle.khiin_records.proofs.RawBytes.{from_dot, from_nasal, from_below, from_copy}
 
 -- ── what stands at a place
@@ -250,11 +250,6 @@ pub below_first : (s : List ℕ) (i : ℕ) → i ≤ 0 → false ≡ (begins bel
 unfolding takes_below listed
 below_first s zero h = sym (and_false (begins below s))
 below_first s (suc i) h = absurd (omega arith)
-
-pub vowel_past : (dotted : Bool) (n : ℕ) → (n ≡ 0 → ⊥) → (n ≡ 1 → ⊥) → ◌≡◌ {A = ℕ} 0 (vowel_at dotted n)
-vowel_past dotted zero h k = absurd (h refl)
-vowel_past dotted (suc zero) h k = absurd (k refl)
-vowel_past dotted (suc (suc n)) h k = refl
 
 pub below_some : (s : List ℕ) (i : ℕ) → (begins below (drop i s) && takes_below (byte_before s i)) ≡ true → 0 < i
 below_some s zero e = absurd (false_true (below_first s 0 (omega arith) ∙ e))

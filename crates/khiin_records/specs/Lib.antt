@@ -1,4 +1,5 @@
 pub mod Syllable
+pub mod Endings
 pub mod Records
 pub mod RawBytes
 pub mod Alignment

@@ -1,6 +1,6 @@
 -- The body of a candidate in bytes: what `from_composed` makes of the bytes of a stripped text in one walk, with the rules of `below_rules` and
 -- `sign_rules` (Syllable.antt) taken together. U+0358 is CD 98, U+207F E2 81 BF and U+0324 CC A4.
-use Rattle.std.specs.Prelude.{◌≡◌, Bool, true, false, ◌&&◌, List, [], ◌∷◌, ◌++◌, ℕ, zero, suc, ◌-◌, ◌*◌, ◌≤◌, length, take, drop, get_or}
+use Rattle.std.specs.Prelude.{◌≡◌, Bool, true, false, ◌&&◌, List, [], ◌∷◌, ◌++◌, ℕ, zero, suc, ◌-◌, ◌*◌, ◌≤◌, length, take, drop, get_or, Option, Some, None}
 use Rattle.ji.specs.Unicode.{listed, pick_number}
 use Rattle.ji.specs.Text.{point, points, begins}
 use Rattle.ji.specs.Written.{Written}
@@ -54,12 +54,12 @@ abbrev pub count_of : Bool → ℕ
 count_of true = 2
 count_of false = 1
 
--- the vowel that the candidate at a position has for U+0358, and 0 where there is no candidate
-abbrev pub vowel_at : Bool → ℕ → ℕ
-vowel_at dotted zero = point "u"
-vowel_at true (suc zero) = point "o"
-vowel_at false (suc zero) = 0
-vowel_at dotted (suc (suc n)) = 0
+-- the vowel that the candidate at a position has for U+0358, where there is a candidate
+abbrev pub vowel_at : Bool → ℕ → Option ℕ
+vowel_at dotted zero = Some (point "u")
+vowel_at true (suc zero) = Some (point "o")
+vowel_at false (suc zero) = None
+vowel_at dotted (suc (suc n)) = None
 
 -- the byte before a place, and 0 at the beginning
 abbrev pub byte_before : List ℕ → ℕ → ℕ

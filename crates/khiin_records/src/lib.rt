@@ -2,11 +2,11 @@
 #![tactic(auto)]
 
 pub mod alignment;
+mod ending;
 pub mod from_composed;
 pub mod from_raw;
 
 use ji::lomaji::khin::Khin;
-use ji::reply::Refusal;
 use ji::tone::Tone;
 use ji::unicode::ByteLen;
 
@@ -18,11 +18,4 @@ pub struct Record {
     pub body: ByteLen,
     pub tone: Tone,
     pub khin: Khin,
-}
-
-// What a call answers that gives a record.
-#[derive(Clone, Copy)]
-pub enum Recorded {
-    Done(Record),
-    Refused(Refusal),
 }

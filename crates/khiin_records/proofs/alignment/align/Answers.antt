@@ -1,25 +1,18 @@
-use mathlib.Core.Path.{sym, ap, ◌∙◌}
+use mathlib.Core.Path.{sym, ◌∙◌}
 use mathlib.Core.List.{[]}
 use Rattle.ji.specs.Unicode.{unicode16}
 use Rattle.ji.specs.declared.reply.Refusal.TheVariants.{TooLong}
 use Rattle.ji.proofs.Replies.{check_long}
 use Rattle.ji.proofs.unicode.Ascii.{ascii_take}
-use Rattle.khiin_records.specs.Syllable.{record_reply}
 use Rattle.khiin_records.proofs.Candidates.{empty_good}
 use Rattle.khiin_records.proofs.Prefixes.{aligned_nothing, align_target_refused, align_target_good}
 use Rattle.khiin_records.proofs.alignment.align.Goals as goal
-use Rattle.std.specs.Prelude.{Result}
-use Rattle.ji.specs.declared.reply.Refusal.{Refusal}
-use Rattle.khiin_records.specs.declared.Record.{Record}
 
 pub returns-then-target-eq0 : goal.returns-then-target-eq0
 returns-then-target-eq0 c =
     c.place_keys.ensures (ascii_take 0 c.args.keys.now c.requires)
     ∙ align_target_good unicode16 c.args.keys.now c.args.target.now c.args.out.now 0 [] (empty_good c.args.target.now c.if-target-eq0.true)
     (sym (aligned_nothing unicode16 c.args.keys.now))
-
-pub returns-then-target-le256 : goal.returns-then-target-le256
-returns-then-target-le256 c = ap (λ (x : Result Record Refusal). record_reply x c.align_long.new.out) c.again.ensures ∙ c.align_long.ensures
 
 pub returns-else-target-le256 : goal.returns-else-target-le256
 returns-else-target-le256 c = let a = c.args in align_target_refused unicode16 a.keys.now a.target.now a.out.now TooLong (check_long unicode16 a.target.now c.if-target-le256.false)

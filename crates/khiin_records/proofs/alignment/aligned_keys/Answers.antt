@@ -1,14 +1,19 @@
 use mathlib.Core.Path.{sym, ◌∙◌}
 use Rattle.khiin_records.proofs.Prefixes.{aligned_none, aligned_grown, aligned_kept}
 use Rattle.khiin_records.proofs.alignment.aligned_keys.Goals as goal
-
-pub returns-then-prefix-eq0 : goal.returns-then-prefix-eq0
-returns-then-prefix-eq0 c = let a = c.args in λ s e is. sym (aligned_none a.keys.now s a.prefix is c.if-prefix-eq0.true)
+use Rattle.khiin_records.proofs.alignment.aligned_keys.Goals.{else-prefix-ne0-via-then-prefix-ne0+else-tone_key_follows, else-prefix-ne0-via-else-prefix-ne0}
 
 pub returns-then-tone_key_follows : goal.returns-then-tone_key_follows
 returns-then-tone_key_follows c =
-    λ s e is. sym (aligned_grown c.args.keys.now s c.args.prefix is c.if-prefix-eq0.false c.args.tone e c.requires.0 (sym c.tone_key_follows.ensures ∙ c.if-tone_key_follows.true))
+    let a = c.args in
+    λ s e is. sym (aligned_grown a.keys.now s a.prefix is c.if-prefix-ne0.true a.ending.tone e a.ending.toned (sym c.tone_key_follows.ensures ∙ c.if-tone_key_follows.true))
 
-pub returns : goal.returns
-returns c =
-    λ s e is. sym (aligned_kept c.args.keys.now s c.args.prefix is c.if-prefix-eq0.false c.args.tone e c.requires.0 (sym c.tone_key_follows.ensures ∙ c.if-tone_key_follows.false))
+pub returns-else-prefix-ne0 : goal.returns-else-prefix-ne0
+returns-else-prefix-ne0 c =
+    let a = c.args in
+    λ s e is.
+    elim c.else-prefix-ne0.branch [
+      | else-prefix-ne0-via-then-prefix-ne0+else-tone_key_follows w ↦
+          sym (aligned_kept a.keys.now s a.prefix is w.if-prefix-ne0.true a.ending.tone e a.ending.toned (sym w.tone_key_follows.ensures ∙ w.if-tone_key_follows.false))
+      | else-prefix-ne0-via-else-prefix-ne0 w ↦ w.if-prefix-ne0.false ∙ sym (aligned_none a.keys.now s a.prefix is w.if-prefix-ne0.false)
+    ]

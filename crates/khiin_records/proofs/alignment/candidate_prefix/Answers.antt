@@ -3,25 +3,25 @@ use mathlib.Core.List.{◌++◌}
 use Rattle.ji.specs.Written.{Written}
 use Rattle.ji.proofs.Writing.{written_length}
 use Rattle.ji.proofs.Readings.{front}
-use Rattle.khiin_records.specs.Syllable.{tone_digit, khin_key}
+use Rattle.khiin_records.specs.Endings.{keys_of}
 use Rattle.khiin_records.specs.RawBytes.{body_of}
 use Rattle.khiin_records.specs.Alignment.{shared_prefix}
 use Rattle.khiin_records.proofs.Prefixes.{raw_written}
 use native.Mathlib.Omega.{arith}
 use Rattle.khiin_records.proofs.alignment.candidate_prefix.Goals as goal
-use Rattle.khiin_records.proofs.alignment.candidate_prefix.Goals.{After-put_keys-len}
+use Rattle.khiin_records.proofs.alignment.candidate_prefix.Goals.{After-put-len}
 
 -- the raw input was written
-module _ (c : After-put_keys-len) where
-  whole : Written c.args.letters.now c.put_keys-len.new.out c.put_keys-len.result ((body_of c.args.vowel c.args.s.now).text ++ (tone_digit c.args.tone ++ khin_key c.args.khin))
+module _ (c : After-put-len) where
+  whole : Written c.args.letters.now c.put-len.new.out c.put-len.result ((body_of c.args.vowel c.args.s.now).text ++ keys_of c.args.ending)
   whole =
       let w = c.spell-spelled in
-      raw_written c.args.tone c.args.khin c.args.letters.now w.new.out c.put_keys-len.new.out w.result.len c.put_keys-len.result _
-      w.ensures.0 c.put_keys-len.ensures.0 c.put_keys-len.ensures.1 (omega (arith, w.ensures.1, c.requires.1))
+      raw_written c.args.ending.tone c.args.ending.khin c.args.letters.now w.new.out c.put-len.new.out w.result.len c.put-len.result _
+      w.ensures.0 c.put-len.ensures.0 c.put-len.ensures.1 (omega (arith, w.ensures.1, c.requires))
 
 pub slice_bounds-shared_prefix-end : goal.slice_bounds-shared_prefix-end
-slice_bounds-shared_prefix-end c = let w = whole (goal.at.slice_bounds-shared_prefix-end c).After-put_keys-len in omega (arith, w.fits, written_length w)
+slice_bounds-shared_prefix-end c = let w = whole (goal.at.slice_bounds-shared_prefix-end c).After-put-len in omega (arith, w.fits, written_length w)
 
 pub returns : goal.returns
 returns c =
-    c.shared_prefix.ensures ∙ ap (shared_prefix c.args.keys.now) (front (whole (goal.at.returns c).After-put_keys-len))
+    c.shared_prefix.ensures ∙ ap (shared_prefix c.args.keys.now) (front (whole (goal.at.returns c).After-put-len))

@@ -1,7 +1,8 @@
-use mathlib.Core.Path.{sym, ap, ◌∙◌}
-use mathlib.Core.Bool.{Bool}
+use mathlib.Core.Path.{◌≡◌, refl, sym, ◌∙◌}
+use mathlib.Core.Bool.{Bool, true, false}
+use mir.Val.{bool_byte}
 use mathlib.Core.List.{[]}
-use Prim.Native.Nat.{ℕ, suc, ◌+◌}
+use Prim.Native.Nat.{ℕ, suc, ◌+◌, ◌≤◌}
 use lib.ListN.{drop}
 use Rattle.ji.specs.Unicode.{pick_number}
 use Rattle.khiin_records.specs.Alignment.{shared_prefix}
@@ -12,19 +13,13 @@ use Rattle.khiin_records.proofs.alignment.khin_prefix.Goals as goal
 pub returns-in-No : goal.returns-in-No
 returns-in-No c = let a = c.args in rw c.in-No.is (sym (with_nothing (drop a.at a.keys.now)), omega arith)
 
-pub returns-then-is_key_at : goal.returns-then-is_key_at
-returns-then-is_key_at c =
-    let a = c.args in
-    rw c.in-Yes.is (
-      sym
-          (c.is_key_at.ensures []
-          ∙ ap (λ (b : Bool). pick_number b (suc (shared_prefix (drop (a.at + 1) a.keys.now) [])) 0) c.if-is_key_at.true
-          ∙ ap (λ (n : ℕ). suc n) (with_nothing (drop (a.at + 1) a.keys.now))),
-      omega arith,
-    )
+-- a truth as a number
+as_number : (b : Bool) (n : ℕ) → n ≡ 0 → (bool_byte b ≡ pick_number b (suc n) 0) × (bool_byte b ≤ 1)
+as_number true n e = (omega (arith, e), omega arith)
+as_number false n e = (refl, omega arith)
 
-pub returns-else-is_key_at : goal.returns-else-is_key_at
-returns-else-is_key_at c =
+pub returns-in-Yes : goal.returns-in-Yes
+returns-in-Yes c =
     let a = c.args in
-    rw c.in-Yes.is
-    (sym (c.is_key_at.ensures [] ∙ ap (λ (b : Bool). pick_number b (suc (shared_prefix (drop (a.at + 1) a.keys.now) [])) 0) c.if-is_key_at.false), omega arith)
+    let shared = as_number c.is_key_at.result (shared_prefix (drop (a.at + 1) a.keys.now) []) (with_nothing (drop (a.at + 1) a.keys.now)) in
+    rw (c.in-Yes.is, c.from.ensures) (shared.0 ∙ sym (c.is_key_at.ensures []), shared.1)

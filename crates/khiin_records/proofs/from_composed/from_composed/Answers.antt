@@ -1,12 +1,25 @@
-use mathlib.Core.Path.{ap, ◌∙◌}
-use Rattle.khiin_records.specs.Syllable.{record_reply}
+use mathlib.Core.Path.{◌≡◌, sym, ap, ◌∙◌}
+use mathlib.Core.List.{List, [], ◌∷◌}
+use Prim.Native.Nat.{ℕ, ◌<◌}
+use lib.ListN.{length}
+use Rattle.ji.specs.Unicode.{unicode16}
+use Rattle.ji.specs.Reply.{refused, Checked}
+use Rattle.ji.specs.declared.reply.Refusal.TheVariants.{TooLong}
+use Rattle.ji.proofs.Replies.{check_long}
+use Rattle.khiin_records.specs.Syllable.{default, from_composed, candidate_in, candidate_of, candidate_call}
+use Rattle.khiin_records.proofs.Candidates.{empty_good}
 use Rattle.khiin_records.proofs.from_composed.from_composed.Goals as goal
-use Rattle.std.specs.Prelude.{Result}
-use Rattle.ji.specs.declared.reply.Refusal.{Refusal}
-use Rattle.khiin_records.specs.declared.Record.{Record}
 
-pub candidate_quick-requires : goal.candidate_quick-requires
-candidate_quick-requires c = c.is_quick.ensures c.if-is_quick.true
+none_given : (text : List ℕ) (position : ℕ) (buffer : List ℕ) → length text ≡ 0 → candidate_in (default ∷ []) position buffer ≡ candidate_call unicode16 text position buffer
+unfolding candidate_call from_composed
+none_given text position buffer h = sym (ap (λ (k : Checked). candidate_of unicode16 k position buffer) (empty_good text h))
 
-pub returns-else-is_quick : goal.returns-else-is_quick
-returns-else-is_quick c = ap (λ (x : Result Record Refusal). record_reply x c.candidate_any.new.out) c.again.ensures ∙ c.candidate_any.ensures
+too_long : (text : List ℕ) (position : ℕ) (buffer : List ℕ) → 256 < length text → refused TooLong buffer ≡ candidate_call unicode16 text position buffer
+unfolding candidate_call
+too_long text position buffer h = sym (ap (λ (k : Checked). candidate_of unicode16 k position buffer) (check_long unicode16 text h))
+
+pub returns-then-text-eq0 : goal.returns-then-text-eq0
+returns-then-text-eq0 c = let a = c.args in c.default_at.ensures ∙ none_given a.text.now a.position a.out.now c.if-text-eq0.true
+
+pub returns-else-text-le256 : goal.returns-else-text-le256
+returns-else-text-le256 c = let a = c.args in too_long a.text.now a.position a.out.now c.if-text-le256.false

@@ -1,18 +1,19 @@
-use mathlib.Core.Path.{sym, ap, ◌∙◌}
-use Rattle.ji.proofs.Bools.{and_yes, and_no}
-use Rattle.khiin_records.specs.RawBytes.{takes_below}
-use Rattle.khiin_records.proofs.Walking.{before_some, below_first}
+use mathlib.Core.Path.{sym, ◌∙◌}
+use mathlib.Core.Logic.{inl, inr}
+use borrow.Author.Tests.{le-ltb}
+use Rattle.ji.proofs.Bools.{false_true, and_no}
+use Rattle.khiin_records.specs.RawBytes.{takes_below, byte_before}
+use Rattle.khiin_records.proofs.Walking.{below_first}
 use Rattle.khiin_records.proofs.from_composed.is_below.Goals as goal
-
-pub returns-then-at-gt0 : goal.returns-then-at-gt0
-returns-then-at-gt0 c =
-    let a = c.args in
-    c.takes_below.ensures ∙ ap takes_below (sym (before_some a.s.now a.at c.if-at-gt0.true)) ∙ sym (and_yes _ _ (sym c.is_pair.ensures ∙ c.if-is_pair.true))
+use Rattle.khiin_records.proofs.from_composed.is_below.Goals.{then-is_pair, else-is_pair}
 
 pub returns-else-at-gt0 : goal.returns-else-at-gt0
 returns-else-at-gt0 c =
     let a = c.args in
-    below_first a.s.now a.at c.if-at-gt0.false
-
-pub returns-else-is_pair : goal.returns-else-is_pair
-returns-else-is_pair c = sym (and_no _ _ (sym c.is_pair.ensures ∙ c.if-is_pair.false))
+    elim c.if-is_pair.branch [
+      | then-is_pair w ↦ elim c.if-at-gt0.either [
+        | inl p ↦ (let first = below_first a.s.now a.at p.1 in let none = le-ltb 0 a.at p.1 in cc)
+        | inr p ↦ absurd (false_true (sym p ∙ w.if-is_pair.true))
+      ]
+      | else-is_pair w ↦ (let not_here = and_no _ (takes_below (byte_before a.s.now a.at)) (sym c.is_pair.ensures ∙ w.if-is_pair.false) in cc)
+    ]

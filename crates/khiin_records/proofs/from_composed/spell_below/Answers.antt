@@ -1,7 +1,7 @@
 use mathlib.Core.Path.{sym, ap, ◌∙◌}
 use mathlib.Core.List.{[], ◌∷◌}
 use Rattle.ji.specs.Text.{replace_all}
-use Rattle.khiin_records.proofs.Spelling.{below_absent}
+use Rattle.khiin_records.proofs.Spelling.{listed_any, below_absent}
 use Rattle.khiin_records.proofs.from_composed.spell_below.Goals as goal
 
 pub returns-then-contains : goal.returns-then-contains
@@ -11,4 +11,4 @@ returns-then-contains c =
     (c.replace_pair-then-contains-2.ensures ∙ ap (replace_all (111 ∷ 804 ∷ []) (101 ∷ 111 ∷ [])) (c.replace_pair-then-contains.ensures ∙ ap (replace_all (85 ∷ 804 ∷ []) (69 ∷ 117 ∷ [])) c.replace_pair.ensures))
 
 pub returns-else-contains : goal.returns-else-contains
-returns-else-contains c = let a = c.args in sym (below_absent a.s.now (sym c.contains.ensures ∙ c.if-contains.false))
+returns-else-contains c = let a = c.args in sym (below_absent a.s.now (listed_any a.s.now 0x0324 ∙ sym c.contains.ensures.value ∙ c.if-contains.false))

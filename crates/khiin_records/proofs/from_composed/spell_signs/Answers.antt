@@ -8,13 +8,14 @@ use Rattle.ji.proofs.Writing.{written_length, stores_2}
 use Rattle.ji.proofs.Underway.{Underway, underway_start, underway_room, underway_run, underway_one, underway_end}
 use Rattle.ji.proofs.text.Laws.{drop_next}
 use Rattle.khiin_records.proofs.Spelling.{sign_vowel, sign_nasal, sign_other, signs_end, signs_growth}
+use borrow.Author.Rules.{rules}
 use native.Mathlib.Omega.{arith}
 use Rattle.khiin_records.proofs.from_composed.spell_signs.Invariants.{replaced}
 use Rattle.khiin_records.proofs.from_composed.spell_signs.Goals as goal
-use Rattle.khiin_records.proofs.from_composed.spell_signs.Goals.{In-loop-i}
+use Rattle.khiin_records.proofs.from_composed.spell_signs.Goals.{In-loop-c, in-856, in-8319, in_default}
 
 -- a turn of the loop, at the code point x
-module _ (c : In-loop-i) where
+module _ (c : In-loop-c) where
   abbrev vowel : ℕ
   vowel = c.args.vowel
 
@@ -22,13 +23,13 @@ module _ (c : In-loop-i) where
   s = c.args.s.now
 
   abbrev out : List ℕ
-  out = c.loop-i.out
+  out = c.loop-c.out
 
   abbrev i : ℕ
-  i = c.loop-i.i
+  i = c.loop-c.c-index
 
   abbrev n : ℕ
-  n = c.loop-i.n
+  n = c.loop-c.n
 
   abbrev x : ℕ
   x = get_or s i 0
@@ -37,7 +38,7 @@ module _ (c : In-loop-i) where
   Goes out i n = Underway (replaced vowel) s c.args.out.now out i n
 
   h : Goes out i n
-  h = c.loop-i.invariant
+  h = c.loop-c.invariant
 
   out_length : length out ≡ length c.args.out.now
   out_length = written_length h.written
@@ -47,7 +48,7 @@ module _ (c : In-loop-i) where
 
   -- what x becomes
   piece : (u : List ℕ) → ((t : List ℕ) → replaced vowel (x ∷ t) ≡ u ++ replaced vowel t) → Piece u
-  piece u e = ap (replaced vowel) (drop_next s i c.loop-i-test.true) ∙ e (drop (i + 1) s)
+  piece u e = ap (replaced vowel) (drop_next s i c.loop-c-test.true) ∙ e (drop (i + 1) s)
 
   vowel_piece : x ≡ 0x0358 → Piece (vowel ∷ [])
   vowel_piece e = piece (vowel ∷ []) (λ t. sign_vowel vowel c.requires.0 x t e)
@@ -73,55 +74,37 @@ module _ (c : In-loop-i) where
   two : Piece (points "nn") → Goes (set (set out n 110) (n + 1) 110) (i + 1) (n + 2)
   two e = rw (stores_2 out n 110 110 (room (points "nn") e)) (underway_run h (i + 1) (points "nn") e (omega arith) (rw out_length at (room (points "nn") e)))
 
-pub loop-i-init : goal.loop-i-init
-loop-i-init c = let a = c.args in underway_start (replaced a.vowel) a.s.now a.out.now
-
-pub offset_bounds-out-n : goal.offset_bounds-out-n
-offset_bounds-out-n c = omega (arith, one_room (goal.at.offset_bounds-out-n c).In-loop-i _ (vowel_piece (goal.at.offset_bounds-out-n c).In-loop-i c.if-c-eq856.true))
+pub loop-c-init : goal.loop-c-init
+loop-c-init c = let a = c.args in underway_start (replaced a.vowel) a.s.now a.out.now
 
 pub bounds-out-n : goal.bounds-out-n
-bounds-out-n c = one_room (goal.at.bounds-out-n c).In-loop-i _ (vowel_piece (goal.at.bounds-out-n c).In-loop-i c.if-c-eq856.true)
+bounds-out-n c = let at = (goal.at.bounds-out-n c).In-loop-c in one_room at _ (vowel_piece at c.in-856.is)
 
-pub overflow_add-n : goal.overflow_add-n
-overflow_add-n c = omega (arith, one_room (goal.at.overflow_add-n c).In-loop-i _ (vowel_piece (goal.at.overflow_add-n c).In-loop-i c.if-c-eq856.true))
+pub bounds-out-n-in-8319 : goal.bounds-out-n-in-8319
+bounds-out-n-in-8319 c = let at = (goal.at.bounds-out-n-in-8319 c).In-loop-c in omega (arith, room at (points "nn") (nasal_piece at (λ e. omega (arith, e, c.in-8319.is)) c.in-8319.is))
 
-pub loop-i-preserved-then-c-eq856 : goal.loop-i-preserved-then-c-eq856
-loop-i-preserved-then-c-eq856 c = one (goal.at.loop-i-preserved-then-c-eq856 c).In-loop-i _ (vowel_piece (goal.at.loop-i-preserved-then-c-eq856 c).In-loop-i c.if-c-eq856.true)
+pub bounds-out-n-in-8319-2 : goal.bounds-out-n-in-8319-2
+bounds-out-n-in-8319-2 c = let at = (goal.at.bounds-out-n-in-8319-2 c).In-loop-c in simp length-set (omega (arith, room at (points "nn") (nasal_piece at (λ e. omega (arith, e, c.in-8319.is)) c.in-8319.is)))
 
-pub offset_bounds-out-n-then-c-eq8319 : goal.offset_bounds-out-n-then-c-eq8319
-offset_bounds-out-n-then-c-eq8319 c = omega (arith, room (goal.at.offset_bounds-out-n-then-c-eq8319 c).In-loop-i (points "nn") (nasal_piece (goal.at.offset_bounds-out-n-then-c-eq8319 c).In-loop-i c.if-c-eq856.false c.if-c-eq8319.true))
+pub bounds-out-n-in_default : goal.bounds-out-n-in_default
+bounds-out-n-in_default c = let at = (goal.at.bounds-out-n-in_default c).In-loop-c in
+    let no_dot : get_or c.args.s.now c.loop-c.c-index 0 ≡ 0x0358 → ⊥ = search rules in
+    let no_nasal : get_or c.args.s.now c.loop-c.c-index 0 ≡ point "ⁿ" → ⊥ = search rules in
+    one_room at _ (other_piece at no_dot no_nasal)
 
-pub bounds-out-n-then-c-eq8319 : goal.bounds-out-n-then-c-eq8319
-bounds-out-n-then-c-eq8319 c = omega (arith, room (goal.at.bounds-out-n-then-c-eq8319 c).In-loop-i (points "nn") (nasal_piece (goal.at.bounds-out-n-then-c-eq8319 c).In-loop-i c.if-c-eq856.false c.if-c-eq8319.true))
-
-pub overflow_add-out : goal.overflow_add-out
-overflow_add-out c = omega (arith, room (goal.at.overflow_add-out c).In-loop-i (points "nn") (nasal_piece (goal.at.overflow_add-out c).In-loop-i c.if-c-eq856.false c.if-c-eq8319.true))
-
-pub offset_bounds-out-n-then-c-eq8319-2 : goal.offset_bounds-out-n-then-c-eq8319-2
-offset_bounds-out-n-then-c-eq8319-2 c = omega (arith, room (goal.at.offset_bounds-out-n-then-c-eq8319-2 c).In-loop-i (points "nn") (nasal_piece (goal.at.offset_bounds-out-n-then-c-eq8319-2 c).In-loop-i c.if-c-eq856.false c.if-c-eq8319.true))
-
-pub bounds-out-n-then-c-eq8319-2 : goal.bounds-out-n-then-c-eq8319-2
-bounds-out-n-then-c-eq8319-2 c = simp length-set (omega (arith, room (goal.at.bounds-out-n-then-c-eq8319-2 c).In-loop-i (points "nn") (nasal_piece (goal.at.bounds-out-n-then-c-eq8319-2 c).In-loop-i c.if-c-eq856.false c.if-c-eq8319.true)))
-
-pub overflow_add-n-then-c-eq8319 : goal.overflow_add-n-then-c-eq8319
-overflow_add-n-then-c-eq8319 c = omega (arith, room (goal.at.overflow_add-n-then-c-eq8319 c).In-loop-i (points "nn") (nasal_piece (goal.at.overflow_add-n-then-c-eq8319 c).In-loop-i c.if-c-eq856.false c.if-c-eq8319.true))
-
-pub loop-i-preserved-then-c-eq8319 : goal.loop-i-preserved-then-c-eq8319
-loop-i-preserved-then-c-eq8319 c = two (goal.at.loop-i-preserved-then-c-eq8319 c).In-loop-i (nasal_piece (goal.at.loop-i-preserved-then-c-eq8319 c).In-loop-i c.if-c-eq856.false c.if-c-eq8319.true)
-
-pub offset_bounds-out-n-else-c-eq8319 : goal.offset_bounds-out-n-else-c-eq8319
-offset_bounds-out-n-else-c-eq8319 c = omega (arith, one_room (goal.at.offset_bounds-out-n-else-c-eq8319 c).In-loop-i _ (other_piece (goal.at.offset_bounds-out-n-else-c-eq8319 c).In-loop-i c.if-c-eq856.false c.if-c-eq8319.false))
-
-pub bounds-out-n-else-c-eq8319 : goal.bounds-out-n-else-c-eq8319
-bounds-out-n-else-c-eq8319 c = one_room (goal.at.bounds-out-n-else-c-eq8319 c).In-loop-i _ (other_piece (goal.at.bounds-out-n-else-c-eq8319 c).In-loop-i c.if-c-eq856.false c.if-c-eq8319.false)
-
-pub overflow_add-n-else-c-eq8319 : goal.overflow_add-n-else-c-eq8319
-overflow_add-n-else-c-eq8319 c = omega (arith, one_room (goal.at.overflow_add-n-else-c-eq8319 c).In-loop-i _ (other_piece (goal.at.overflow_add-n-else-c-eq8319 c).In-loop-i c.if-c-eq856.false c.if-c-eq8319.false))
-
-pub loop-i-preserved : goal.loop-i-preserved
-loop-i-preserved c = one (goal.at.loop-i-preserved c).In-loop-i _ (other_piece (goal.at.loop-i-preserved c).In-loop-i c.if-c-eq856.false c.if-c-eq8319.false)
+pub loop-c-preserved : goal.loop-c-preserved
+loop-c-preserved c =
+    let at = (goal.at.loop-c-preserved c).In-loop-c in
+    elim c.match-c.branch [
+      | in-856 w ↦ rw (w.out-is, w.n-is) (one at _ (vowel_piece at w.in-856.is))
+      | in-8319 w ↦ rw (w.out-is, w.n-is) (two at (nasal_piece at (λ e. omega (arith, e, w.in-8319.is)) w.in-8319.is))
+      | in_default w ↦
+          let no_dot : get_or c.args.s.now c.loop-c.c-index 0 ≡ 0x0358 → ⊥ = search rules in
+          let no_nasal : get_or c.args.s.now c.loop-c.c-index 0 ≡ point "ⁿ" → ⊥ = search rules in
+          rw (w.out-is, w.n-is) (one at _ (other_piece at no_dot no_nasal))
+    ]
 
 pub returns : goal.returns
 returns c =
-    let l = c.loop-i in
-    underway_end l.invariant (ap (replaced c.args.vowel) (drop_of_length-le c.args.s.now {i = l.i} c.loop-i-test.false) ∙ signs_end c.args.vowel c.requires.0)
+    let l = c.loop-c in
+    underway_end l.invariant (ap (replaced c.args.vowel) (drop_of_length-le c.args.s.now {i = l.c-index} c.loop-c-test.false) ∙ signs_end c.args.vowel c.requires.0)

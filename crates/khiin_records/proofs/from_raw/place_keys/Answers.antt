@@ -1,18 +1,14 @@
 use Rattle.std.proofs.lemmas.Result.{err_from_is_err_and}
-use mathlib.Core.Path.{◌≡◌, sym, ap, ◌∙◌}
+use mathlib.Core.Path.{◌≡◌, ap, ◌∙◌}
 use mathlib.Core.Bool.{true}
 use mathlib.Core.List.{List}
 use Prim.Native.Nat.{ℕ}
 use Rattle.ji.specs.Text.{all_ascii}
 use Rattle.ji.specs.Utf8.{encode}
-use Rattle.ji.specs.Reply.{text_reply}
 use Rattle.khiin_records.specs.Syllable.{raw, from_raw}
 use Rattle.ji.proofs.unicode.Ascii.{ascii_bytes}
 use Rattle.khiin_records.proofs.Records.{record_refused, record_done, written_size, raw_is}
 use Rattle.khiin_records.proofs.from_raw.place_keys.Goals as goal
-use Rattle.std.specs.Prelude.{Result}
-use Rattle.ji.specs.declared.unicode.ByteLen.{ByteLen}
-use Rattle.ji.specs.declared.reply.Refusal.{Refusal}
 
 raw_bytes : (s : List ℕ) → all_ascii s ≡ true → encode (raw (from_raw s)) ≡ s
 raw_bytes s h = ap encode (raw_is s) ∙ ascii_bytes s h

@@ -1,7 +1,5 @@
-use mathlib.Core.Path.{◌≡◌, sym, ap, ◌∙◌}
-use Rattle.ji.specs.Text.{last}
+use mathlib.Core.Path.{sym, ap, ◌∙◌}
 use Rattle.ji.specs.Tone.{is_tone}
-use Rattle.khiin_records.specs.Syllable.{key_tone}
 use Rattle.khiin_records.proofs.Records.{toned_some, toned_record, bare_record}
 use Rattle.khiin_records.proofs.from_raw.record_of.Goals as goal
 
