@@ -3,7 +3,7 @@
 use mathlib.Core.Path.{◌≡◌, refl, sym, ap, ap₂, ◌∙◌, subst}
 use mathlib.Core.Bool.{Bool, true, false}
 use mathlib.Core.List.{List, [], ◌∷◌, ◌++◌}
-use Prim.Native.Nat.{ℕ, zero, suc, ◌+◌, ◌*◌, ◌≤◌, ◌<◌}
+use Prim.Native.Nat.{ℕ, zero, suc, ◌+◌, ◌≤◌, ◌<◌}
 use native.Mathlib.Omega.{arith}
 use lib.Dec.{eqb}
 use lib.ListN.{length, length-append}
@@ -28,7 +28,6 @@ use Rattle.ji.proofs.Replies.{placed_written}
 use Rattle.ji.proofs.Writing.{written_run}
 use Rattle.ji.proofs.unicode.Bytes.{encode_nil, encode_append}
 use Rattle.ji.proofs.unicode.Checked.{check_passes}
-use Rattle.ji.proofs.lomaji.keys.Bytes.{stripped_bytes}
 use Rattle.khiin_records.specs.Syllable.{Syllable, raw, tone_digit, khin_key, candidate, from_composed, candidates_of, candidate_in, candidate_of, candidate_call, placed_record, record_reply}
 use Rattle.khiin_records.specs.Records.{RecordOf}
 use Rattle.ji.specs.Lomaji.Dot.{dot_in}
@@ -177,7 +176,3 @@ unmarked_some s =
 pub tone_some : (t : Table) (s : List ℕ) → is_tone (strip t s).tone ≡ true
 unfolding stripped
 tone_some t s = last_some _ (unmarked_some _) (nfd t s)
-
--- a stripped text has at most five bytes for each two of the text
-pub stripped_fits : (part u : List ℕ) → part ≡ encode (strip unicode16 u).rest → 2 * length part ≤ 5 * length (encode u)
-stripped_fits part u e = omega (arith, ap length e, stripped_bytes u)

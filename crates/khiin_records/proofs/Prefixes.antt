@@ -31,10 +31,13 @@ use Rattle.ji.proofs.unicode.Bytes.{bytes_one, bytes_two, bytes_three, bytes_fou
 use Rattle.khiin_records.specs.Syllable.{Syllable, raw, pick_syllable, default, tone_digit, khin_key, candidate, candidates_of, from_composed, from_raw, placed_record, check_keys}
 use Rattle.khiin_records.specs.RawBytes.{Body, body_from, body_of}
 use Rattle.khiin_records.specs.Alignment.{shared_prefix, longer, nearest, nearest_of, grows, aligned_with, aligned, align_of, align_call}
+use Rattle.khiin_records.specs.Endings.{keys_of}
 use Rattle.khiin_records.specs.Prefixes.{NearestPrefix}
+use Rattle.khiin_records.specs.declared.ending.Ending.{Ending}
 use Rattle.khiin_records.proofs.RawBytes.{from_copy, body_is}
 use Rattle.khiin_records.proofs.Records.{candidates_two, candidates_one}
 use Rattle.khiin_records.proofs.Candidates.{raw_bytes, keys_few}
+use Rattle.std.specs.List.{prefix_len, zip}
 use Rattle.std.specs.Char.{to_ascii_lowercase, eq_ignore_ascii_case}
 
 -- ── a raw input that was written: the body, and the keys behind it
@@ -55,18 +58,16 @@ lower_std x = by_place (dec_le 65 x) (dec_le x 90)
 pub same_key : (k c : ℕ) → eqb (lower k) (lower c) ≡ eq_ignore_ascii_case k c
 same_key k c = ap₂ eqb (lower_std k) (lower_std c)
 
+pub shared_zip : (keys s : List ℕ) → shared_prefix keys s ≡ prefix_len (λ (p : ℕ × ℕ). eq_ignore_ascii_case p.0 p.1) (zip keys s)
+unfolding shared_prefix
+shared_zip [] s = refl
+shared_zip (k ∷ keys) [] = refl
+shared_zip (k ∷ keys) (c ∷ s) =
+    either (eqb (lower k) (lower c))
+    (λ e. let same : eq_ignore_ascii_case k c ≡ true = sym (same_key k c) ∙ e in rw (e, same) (omega (arith, shared_zip keys s)))
+    (λ e. let other : eq_ignore_ascii_case k c ≡ false = sym (same_key k c) ∙ e in rw (e, other) refl)
+
 -- ── turn by turn
-module _ (keys s : List ℕ) (i : ℕ) (more : i < length keys) (some : i < length s) where
-  at_place : shared_prefix (drop i keys) (drop i s) ≡ pick_number (eqb (lower (get_or keys i 0)) (lower (get_or s i 0))) (suc (shared_prefix (drop (i + 1) keys) (drop (i + 1) s))) 0
-  unfolding shared_prefix
-  at_place = ap₂ shared_prefix (drop_next keys i more) (drop_next s i some)
-
-  pub prefix_more : eqb (lower (get_or keys i 0)) (lower (get_or s i 0)) ≡ true → shared_prefix (drop i keys) (drop i s) ≡ suc (shared_prefix (drop (i + 1) keys) (drop (i + 1) s))
-  prefix_more e = at_place ∙ number_yes _ _ _ e
-
-  pub prefix_less : eqb (lower (get_or keys i 0)) (lower (get_or s i 0)) ≡ false → shared_prefix (drop i keys) (drop i s) ≡ 0
-  prefix_less e = at_place ∙ number_no _ _ _ e
-
 without_keys : (s : List ℕ) → shared_prefix [] s ≡ 0
 unfolding shared_prefix
 without_keys s = refl
@@ -78,9 +79,6 @@ with_nothing (k ∷ keys) = refl
 
 pub prefix_keys_end : (keys s : List ℕ) (i : ℕ) → length keys ≤ i → shared_prefix (drop i keys) s ≡ 0
 prefix_keys_end keys s i h = ap (λ (l : List ℕ). shared_prefix l s) (drop_of_length-le keys h) ∙ without_keys s
-
-pub prefix_text_end : (keys s : List ℕ) (i : ℕ) → length s ≤ i → shared_prefix keys (drop i s) ≡ 0
-prefix_text_end keys s i h = ap (shared_prefix keys) (drop_of_length-le s h) ∙ with_nothing keys
 
 -- the first byte of a raw input
 pub prefix_first : (keys : List ℕ) (i x : ℕ) (s : List ℕ) → i < length keys
@@ -246,22 +244,22 @@ module _ (s : List ℕ) (plain : all_ascii s ≡ true) where
       ∙ ap (λ (l : List ℕ). (body_of (point "u") l).dotted) (sym e)
       ∙ ap (λ (b : Body). b.dotted) (body_itself (point "u"))
 
-  module _ (keys : List ℕ) (t : Tone) (k : Khin) (h : all_ascii keys ≡ true) where
-    near : (n : ℕ) → n ≡ shared_prefix keys (s ++ (tone_digit t ++ khin_key k)) → NearestPrefix keys s t k n
+  module _ (keys : List ℕ) (ending : Ending) (h : all_ascii keys ≡ true) where
+    near : (n : ℕ) → n ≡ shared_prefix keys (s ++ (keys_of ending)) → NearestPrefix keys s ending n
     near n is =
         record {
           inside = rw is (prefix_fits _ _);
           shared = λ u e.
-              nearest_alone keys t k u s e h n
-              (is ∙ ap (λ (b : Body). shared_prefix keys (b.text ++ (tone_digit t ++ khin_key k))) (sym (body_itself (point "u")))) (no_dot u e);
+              nearest_alone keys ending.tone ending.khin u s e h n
+              (is ∙ ap (λ (b : Body). shared_prefix keys (b.text ++ (keys_of ending))) (sym (body_itself (point "u")))) (no_dot u e);
         }
 
-    pub near_within : (n : ℕ) → n ≡ shared_prefix keys s → n < length s → NearestPrefix keys s t k n
-    near_within n is less = near n (is ∙ sym (prefix_within keys s (tone_digit t ++ khin_key k) (omega (arith, is))))
+    pub near_within : (n : ℕ) → n ≡ shared_prefix keys s → n < length s → NearestPrefix keys s ending n
+    near_within n is less = near n (is ∙ sym (prefix_within keys s (keys_of ending) (omega (arith, is))))
 
-    pub near_through : (n m : ℕ) → n ≡ shared_prefix keys s → length s ≤ n → m ≡ shared_prefix (drop n keys) (tone_digit t ++ khin_key k) → NearestPrefix keys s t k (n + m)
+    pub near_through : (n m : ℕ) → n ≡ shared_prefix keys s → length s ≤ n → m ≡ shared_prefix (drop n keys) (keys_of ending) → NearestPrefix keys s ending (n + m)
     near_through n m is more rest =
-        near (n + m) (ap (λ (j : ℕ). n + j) rest ∙ ap (λ (j : ℕ). j + shared_prefix (drop j keys) (tone_digit t ++ khin_key k)) is ∙ sym (prefix_through keys s (tone_digit t ++ khin_key k) (omega (arith, is))))
+        near (n + m) (ap (λ (j : ℕ). n + j) rest ∙ ap (λ (j : ℕ). j + shared_prefix (drop j keys) (keys_of ending)) is ∙ sym (prefix_through keys s (keys_of ending) (omega (arith, is))))
 
 -- ── how many keys are aligned
 digit_one : (t : Tone) → is_tone t ≡ true → tone_digit t ≡ (point "0" + tone_number t) ∷ []

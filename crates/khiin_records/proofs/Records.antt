@@ -13,7 +13,7 @@ use Rattle.ji.specs.Text.{points, begins, all_ascii, but_last, last}
 use Rattle.ji.specs.Utf8.{encode}
 use Rattle.ji.specs.Tone.{is_tone, pick_tone}
 use Rattle.ji.specs.Reply.{Reply, refused, over, pick_reply, answered, placed, good, bad, pick_checked}
-use Rattle.ji.specs.Lomaji.Khin.{khin_number, without_khin}
+use Rattle.ji.specs.Lomaji.Khin.{without_khin}
 use Rattle.ji.specs.Lomaji.Strip.{tone_in}
 use Rattle.ji.specs.declared.reply.Refusal.{Refusal}
 use Rattle.ji.specs.declared.reply.Refusal.TheVariants.{TooLong, OutsideTable, Position, NoRoom}
@@ -194,10 +194,6 @@ raw_size s t k e =
     ∙ ap (λ (l : List ℕ). length (encode s.body) + length l)
     (encode_append (tone_digit t) (khin_key k) ∙ ap₂ ◌++◌ (ascii_bytes (tone_digit t) (digit_ascii t)) (ascii_bytes (khin_key k) (khin_ascii k)))
 
-pub khin_length : (k : Khin) → length (khin_key k) ≡ khin_number k
-khin_length No = refl
-khin_length Yes = refl
-
 -- the candidates, with U+0358 and without
 module _ (t : Tone) (k : Khin) (s : List ℕ) where
   pub candidates_two : listed s 0x0358 ≡ true → candidates_of t k s ≡ candidate t k s (points "u") ∷ candidate t k s (points "o") ∷ []
@@ -206,15 +202,10 @@ module _ (t : Tone) (k : Khin) (s : List ℕ) where
   pub candidates_one : listed s 0x0358 ≡ false → candidates_of t k s ≡ candidate t k s (points "u") ∷ []
   candidates_one e = ap (λ (b : Bool). pick_syllables b (candidate t k s (points "u") ∷ candidate t k s (points "o") ∷ []) (candidate t k s (points "u") ∷ [])) e
 
--- a position behind the last one
+-- a position behind the one candidate
 pub past_one : (a : Syllable) (n : ℕ) (buffer : List ℕ) → (n ≡ 0 → ⊥) → refused Position buffer ≡ candidate_in (a ∷ []) n buffer
 past_one a zero buffer h = absurd (h refl)
 past_one a (suc n) buffer h = refl
-
-pub past_two : (a b : Syllable) (n : ℕ) (buffer : List ℕ) → (n ≡ 0 → ⊥) → (n ≡ 1 → ⊥) → refused Position buffer ≡ candidate_in (a ∷ b ∷ []) n buffer
-past_two a b zero buffer h k = absurd (h refl)
-past_two a b (suc zero) buffer h k = absurd (k refl)
-past_two a b (suc (suc n)) buffer h k = refl
 
 -- ── the text behind khin
 members_drop : (n : ℕ) (s : List ℕ) → members unicode16 s ≡ true → members unicode16 (drop n s) ≡ true

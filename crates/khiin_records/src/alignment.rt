@@ -24,12 +24,10 @@ use ji::unicode;
 fn shared_prefix(keys: &[u8], s: &[u8]) -> usize
     ensures { result ≡ shared_prefix keys.now s.now }
 {
-    for (i, key) in keys.iter().enumerate() {
-        if s.len() <= i || !key.eq_ignore_ascii_case(&s[i]) {
-            return i;
-        }
-    }
-    keys.len()
+    keys.iter()
+        .zip(s)
+        .take_while(|(key, c)| key.eq_ignore_ascii_case(c))
+        .count()
 }
 
 // How many keys are shared with the candidate of `s`, stripped and behind khin, that has `vowel` for U+0358. `letters` is used up.
@@ -52,7 +50,7 @@ fn takes_later(earlier: usize, later: usize) -> bool
 // How many keys are shared with the candidate that shares most: the one with u or, where U+0358 occurs, the one with o. `letters` is used up.
 fn spelled_prefix(keys: &[u8], s: &[u8], ending: Ending, letters: &mut [u8]) -> usize
     requires { (all_ascii keys.now ≡ true) × (length s.now + 2 ≤ length letters.old) }
-    ensures { NearestPrefix keys.now s.now ending.tone ending.khin result }
+    ensures { NearestPrefix keys.now s.now ending result }
 {
     let earlier = candidate_prefix(keys, s, b'u', ending, letters);
     if holds_dot(s) {
@@ -67,7 +65,7 @@ fn spelled_prefix(keys: &[u8], s: &[u8], ending: Ending, letters: &mut [u8]) -> 
 // The same with N bytes for the candidates.
 fn spelled_within<const N: usize>(keys: &[u8], s: &[u8], ending: Ending) -> usize
     requires { (all_ascii keys.now ≡ true) × (length s.now + 2 ≤ N) × (N ≤ 642) }
-    ensures { NearestPrefix keys.now s.now ending.tone ending.khin result }
+    ensures { NearestPrefix keys.now s.now ending result }
 {
     let mut letters = [0u8; N];
     spelled_prefix(keys, s, ending, &mut letters)
@@ -105,7 +103,7 @@ fn digits_prefix(keys: &[u8], at: usize, ending: Ending) -> usize
 // The same of an ASCII text, which is the body of its one candidate: nothing is spelled, and nothing copied.
 fn plain_prefix(keys: &[u8], s: &[u8], ending: Ending) -> usize
     requires { (all_ascii keys.now ≡ true) × (all_ascii s.now ≡ true) }
-    ensures { NearestPrefix keys.now s.now ending.tone ending.khin result }
+    ensures { NearestPrefix keys.now s.now ending result }
 {
     let body = shared_prefix(keys, s);
     if body < s.len() {
@@ -117,7 +115,7 @@ fn plain_prefix(keys: &[u8], s: &[u8], ending: Ending) -> usize
 // The same of any text. Of a short one clearing a small buffer is quicker.
 fn nearest_prefix(keys: &[u8], s: &[u8], ending: Ending) -> usize
     requires { (all_ascii keys.now ≡ true) × (length s.now ≤ 640) }
-    ensures { NearestPrefix keys.now s.now ending.tone ending.khin result }
+    ensures { NearestPrefix keys.now s.now ending result }
 {
     if unicode::is_ascii(s) {
         plain_prefix(keys, s, ending)

@@ -1,28 +1,18 @@
 use mathlib.Core.Path.{sym, ◌∙◌}
-use lib.ListN.{drop}
-use native.Mathlib.Omega.{arith}
-use Rattle.khiin_records.proofs.Prefixes.{same_key, prefix_more, prefix_less, prefix_keys_end, prefix_text_end}
+use Prim.Native.Nat.{ℕ}
+use Rattle.std.proofs.Common.{rules, tests}
+use Rattle.std.specs.List.{zip}
+use Rattle.std.specs.Char.{eq_ignore_ascii_case}
+use Rattle.std.proofs.lemmas.Iterator.{YieldsList-from_slice, YieldsList-from_zip}
+use Rattle.std.proofs.lemmas.Iterator.Search.{YieldsList-from_take_while}
+use Rattle.std.proofs.lemmas.Iterator.Consumers.{count_from_yields_List}
+use Rattle.std.proofs.lemmas.List.Folds.{length-prefix_len}
+use Rattle.khiin_records.proofs.Prefixes.{shared_zip}
 use Rattle.khiin_records.proofs.alignment.shared_prefix.Goals as goal
-use Rattle.khiin_records.proofs.alignment.shared_prefix.Goals.{then-s-i-via-then-s-i, then-s-i-via-else-s-i+then-not-eq_ignore_ascii_case}
-
-pub returns-then-s-i : goal.returns-then-s-i
-returns-then-s-i c =
-    let a = c.args in
-    let l = c.loop-i in
-    elim c.then-s-i.branch [
-      | then-s-i-via-then-s-i w ↦ omega (arith, prefix_text_end (drop l.i a.keys.now) a.s.now l.i w.if-s-i.true, l.invariant.1)
-      | then-s-i-via-else-s-i+then-not-eq_ignore_ascii_case w ↦
-          omega (arith, prefix_less a.keys.now a.s.now l.i (omega arith) (omega arith) (same_key _ _ ∙ sym w.eq_ignore_ascii_case.ensures ∙ w.if-not-eq_ignore_ascii_case.true), l.invariant.1)
-    ]
-
-pub loop-i-preserved : goal.loop-i-preserved
-loop-i-preserved c =
-    let a = c.args in
-    let l = c.loop-i in
-    (omega arith, omega (arith, prefix_more a.keys.now a.s.now l.i (omega arith) (omega arith) (same_key _ _ ∙ sym c.eq_ignore_ascii_case.ensures ∙ c.if-not-eq_ignore_ascii_case.false), l.invariant.1))
 
 pub returns : goal.returns
 returns c =
-    let a = c.args in
-    let l = c.loop-i in
-    omega (arith, prefix_keys_end a.keys.now (drop l.i a.s.now) l.i c.loop-i-test.false, l.invariant.1)
+    count_from_yields_List _ _ c.count.ensures.ran
+    (YieldsList-from_take_while _ (λ (p : ℕ × ℕ). eq_ignore_ascii_case p.0 p.1) (YieldsList-from_zip (YieldsList-from_slice c.args.keys.now cc) (YieldsList-from_slice c.args.s.now cc)) (search rules) (search rules) (λ x b q k. search (rules, tests)))
+    ∙ length-prefix_len {X = ℕ × ℕ} (λ (p : ℕ × ℕ). eq_ignore_ascii_case p.0 p.1) (zip c.args.keys.now c.args.s.now)
+    ∙ sym (shared_zip c.args.keys.now c.args.s.now)
