@@ -183,7 +183,7 @@ fn align(keys: &[u8], target: &[u8], out: &mut [u8]) -> Result<Record, Refusal>
     requires { all_ascii keys.now ≡ true }
     ensures { record_reply result out.new ≡ align_of unicode16 (good keys.now) (check_text unicode16 target.now) out.old }
 {
-    if target.len() == 0 {
+    if target.is_empty() {
         place_keys(&keys[0..0], out)
     } else if target.len() <= 16 {
         align_within::<40>(keys, target, out)

@@ -361,7 +361,7 @@ fn candidate_within<const N: usize>(
 pub fn from_composed(text: &[u8], position: u64, out: &mut [u8]) -> Result<Record, Refusal>
     ensures { record_reply result out.new ≡ candidate_call unicode16 text.now position out.old }
 {
-    if text.len() == 0 {
+    if text.is_empty() {
         default_at(position, out)
     } else if text.len() <= 16 {
         candidate_within::<40>(text, position, out)

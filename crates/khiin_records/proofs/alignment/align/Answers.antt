@@ -1,5 +1,6 @@
 use mathlib.Core.Path.{sym, ◌∙◌}
 use mathlib.Core.List.{[]}
+use borrow.Author.Tests.{eqb-true}
 use Rattle.ji.specs.Unicode.{unicode16}
 use Rattle.ji.specs.declared.reply.Refusal.TheVariants.{TooLong}
 use Rattle.ji.proofs.Replies.{check_long}
@@ -8,10 +9,10 @@ use Rattle.khiin_records.proofs.Candidates.{empty_good}
 use Rattle.khiin_records.proofs.Prefixes.{aligned_nothing, align_target_refused, align_target_good}
 use Rattle.khiin_records.proofs.alignment.align.Goals as goal
 
-pub returns-then-target-eq0 : goal.returns-then-target-eq0
-returns-then-target-eq0 c =
+pub returns-then-is_empty : goal.returns-then-is_empty
+returns-then-is_empty c =
     c.place_keys.ensures (ascii_take 0 c.args.keys.now c.requires)
-    ∙ align_target_good unicode16 c.args.keys.now c.args.target.now c.args.out.now 0 [] (empty_good c.args.target.now c.if-target-eq0.true)
+    ∙ align_target_good unicode16 c.args.keys.now c.args.target.now c.args.out.now 0 [] (empty_good c.args.target.now (eqb-true _ 0 (sym c.is_empty.ensures ∙ c.if-is_empty.true)))
     (sym (aligned_nothing unicode16 c.args.keys.now))
 
 pub returns-else-target-le256 : goal.returns-else-target-le256

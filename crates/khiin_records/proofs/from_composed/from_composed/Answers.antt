@@ -1,6 +1,7 @@
 use mathlib.Core.Path.{◌≡◌, sym, ap, ◌∙◌}
 use mathlib.Core.List.{List, [], ◌∷◌}
 use Prim.Native.Nat.{ℕ, ◌<◌}
+use borrow.Author.Tests.{eqb-true}
 use lib.ListN.{length}
 use Rattle.ji.specs.Unicode.{unicode16}
 use Rattle.ji.specs.Reply.{refused, Checked}
@@ -18,8 +19,8 @@ too_long : (text : List ℕ) (position : ℕ) (buffer : List ℕ) → 256 < leng
 unfolding candidate_call
 too_long text position buffer h = sym (ap (λ (k : Checked). candidate_of unicode16 k position buffer) (check_long unicode16 text h))
 
-pub returns-then-text-eq0 : goal.returns-then-text-eq0
-returns-then-text-eq0 c = let a = c.args in c.default_at.ensures ∙ none_given a.text.now a.position a.out.now c.if-text-eq0.true
+pub returns-then-is_empty : goal.returns-then-is_empty
+returns-then-is_empty c = let a = c.args in c.default_at.ensures ∙ none_given a.text.now a.position a.out.now (eqb-true _ 0 (sym c.is_empty.ensures ∙ c.if-is_empty.true))
 
 pub returns-else-text-le256 : goal.returns-else-text-le256
 returns-else-text-le256 c = let a = c.args in too_long a.text.now a.position a.out.now c.if-text-le256.false
