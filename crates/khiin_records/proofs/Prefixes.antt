@@ -55,17 +55,17 @@ lower_std x = by_place (dec_le 65 x) (dec_le x 90)
     by_place (yes p) (yes q) = rw (le-leb 65 x p, le-leb x 90 q, le-ltb x 65 p, lt-ltb x 91 (omega arith)) refl
     by_place (yes p) (no q) = rw (le-leb 65 x p, lt-leb x 90 (omega arith), le-ltb x 65 p, le-ltb x 91 (omega arith)) refl
 
-pub same_key : (k c : ℕ) → eqb (lower k) (lower c) ≡ eq_ignore_ascii_case k c
-same_key k c = ap₂ eqb (lower_std k) (lower_std c)
+pub same_std : (k c : ℕ) → eqb (lower k) (lower c) ≡ eq_ignore_ascii_case k c
+same_std k c = ap₂ eqb (lower_std k) (lower_std c)
 
-pub shared_zip : (keys s : List ℕ) → shared_prefix keys s ≡ prefix_len (λ (p : ℕ × ℕ). eq_ignore_ascii_case p.0 p.1) (zip keys s)
+pub shared_zip : (keys s : List ℕ) → shared_prefix keys s ≡ prefix_len (λ (p : ℕ × ℕ). eqb (lower p.0) (lower p.1)) (zip keys s)
 unfolding shared_prefix
 shared_zip [] s = refl
 shared_zip (k ∷ keys) [] = refl
 shared_zip (k ∷ keys) (c ∷ s) =
     either (eqb (lower k) (lower c))
-    (λ e. let same : eq_ignore_ascii_case k c ≡ true = sym (same_key k c) ∙ e in rw (e, same) (omega (arith, shared_zip keys s)))
-    (λ e. let other : eq_ignore_ascii_case k c ≡ false = sym (same_key k c) ∙ e in rw (e, other) refl)
+    (λ e. rw e (omega (arith, shared_zip keys s)))
+    (λ e. rw e refl)
 
 -- ── turn by turn
 without_keys : (s : List ℕ) → shared_prefix [] s ≡ 0

@@ -20,13 +20,20 @@ use ji::lomaji::{khin, strip};
 use ji::reply::Refusal;
 use ji::unicode;
 
+// Whether two bytes are the same, ASCII case ignored. Most that are compared are the very same, so that this is asked first.
+fn same_key(a: u8, b: u8) -> bool
+    ensures { result ≡ eqb (lower_of a) (lower_of b) }
+{
+    a == b || a.eq_ignore_ascii_case(&b)
+}
+
 // How many keys the keys and a raw input share at their beginning, ASCII case ignored.
 fn shared_prefix(keys: &[u8], s: &[u8]) -> usize
     ensures { result ≡ shared_prefix keys.now s.now }
 {
     keys.iter()
         .zip(s)
-        .take_while(|(key, c)| key.eq_ignore_ascii_case(c))
+        .take_while(|(key, c)| same_key(**key, **c))
         .count()
 }
 
@@ -75,7 +82,7 @@ fn spelled_within<const N: usize>(keys: &[u8], s: &[u8], ending: Ending) -> usiz
 fn is_key_at(keys: &[u8], at: usize, x: u8) -> bool
     ensures { (s : List ℕ) → shared_prefix (drop at keys.now) (x ∷ s) ≡ pick_number result (suc (shared_prefix (drop (at + 1) keys.now) s)) 0 }
 {
-    at < keys.len() && keys[at].eq_ignore_ascii_case(&x)
+    at < keys.len() && same_key(keys[at], x)
 }
 
 // How many of the keys from `at` on are shared with the 0 for khin.

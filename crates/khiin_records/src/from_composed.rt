@@ -320,6 +320,8 @@ pub(crate) fn again(answer: Result<Record, Refusal>) -> Result<Record, Refusal>
 }
 
 // The candidate at the position of a text, stripped and behind khin: by the quick way where its raw input has room in any case, else by the plain one.
+// Written into its callers, so that the record of a short text need not go through memory.
+#[inline(always)]
 fn candidate_stripped(
     s: &[u8],
     ending: Ending,

@@ -6,7 +6,7 @@ use borrow.Author.Tests.{le-ltb}
 use lib.ListN.{length, drop}
 use Rattle.ji.specs.Unicode.{pick_number}
 use Rattle.khiin_records.specs.Alignment.{shared_prefix}
-use Rattle.khiin_records.proofs.Prefixes.{same_key, prefix_first, prefix_keys_end}
+use Rattle.khiin_records.proofs.Prefixes.{prefix_first, prefix_keys_end}
 use Rattle.khiin_records.proofs.alignment.is_key_at.Goals as goal
 
 pub returns-then-at-keys : goal.returns-then-at-keys
@@ -14,7 +14,7 @@ returns-then-at-keys c =
     let a = c.args in
     λ s.
     prefix_first a.keys.now a.at a.x s c.if-at-keys.true
-    ∙ ap (λ (b : Bool). pick_number b (suc (shared_prefix (drop (a.at + 1) a.keys.now) s)) 0) (same_key _ _ ∙ sym c.eq_ignore_ascii_case.ensures)
+    ∙ ap (λ (b : Bool). pick_number b (suc (shared_prefix (drop (a.at + 1) a.keys.now) s)) 0) (sym c.same_key.ensures)
 
 pub returns-else-at-keys : goal.returns-else-at-keys
 returns-else-at-keys c =
