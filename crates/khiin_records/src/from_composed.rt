@@ -142,6 +142,7 @@ fn candidate_points(
 }
 
 // The one candidate of the empty text: the default.
+#[tactic(auto, unfolding(ji::specs::Utf8::encode))]
 fn default_at(position: u64, out: &mut [u8]) -> Result<Record, Refusal>
     ensures { record_reply result out.new ≡ candidate_in (default ∷ []) position out.old }
 {
@@ -175,6 +176,7 @@ fn is_nasal(s: &[u8], at: usize) -> bool
 }
 
 // The letters that U+0324 changes: O, U, o, u.
+#[tactic(auto, unfolding(crate::specs::RawBytes::takes_below, ji::specs::Unicode::listed))]
 fn takes_below(x: u8) -> bool
     ensures { result ≡ takes_below x }
 {
@@ -182,6 +184,7 @@ fn takes_below(x: u8) -> bool
 }
 
 // The first of the two letters that stand for such a letter: E for a capital, else e.
+#[tactic(auto, unfolding(ji::specs::Unicode::listed))]
 fn first_of(x: u8) -> u8
     ensures { result ≡ first_of x }
 {
@@ -192,6 +195,7 @@ fn first_of(x: u8) -> u8
 }
 
 // The second: u or o, never a capital.
+#[tactic(auto, unfolding(ji::specs::Unicode::listed))]
 fn second_of(x: u8) -> u8
     ensures { result ≡ second_of x }
 {

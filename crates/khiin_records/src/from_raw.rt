@@ -12,6 +12,7 @@ use ji::unicode::ByteLen;
 use ji::{reply, unicode};
 
 // The tone that a key is, None of any key but 1 to 9.
+#[tactic(auto, unfolding(crate::specs::Syllable::key_tone))]
 fn key_tone(key: u8) -> Tone
     ensures { result ≡ key_tone key }
 {
