@@ -4,19 +4,18 @@ use mathlib.Core.Bool.{Bool, true, false}
 use mathlib.Core.List.{List, [], ◌∷◌, ◌++◌, append-nil}
 use Prim.Native.Nat.{ℕ, zero, suc, ◌+◌, ◌-◌, ◌≤◌, ◌<◌}
 use native.Mathlib.Omega.{arith}
-use borrow.Author.Tests.{le-leb, lt-leb, ne_eqb}
+use borrow.Author.Tests.{le-leb, lt-leb}
 use lib.Dec.{leb}
 use lib.ListN.{length, take, drop, length-append}
 use lib.Seq.{length-take-le}
 use Rattle.ji.specs.Unicode.{unicode16, member, members, listed, pick_text}
 use Rattle.ji.specs.Text.{points, begins, all_ascii, but_last, last}
 use Rattle.ji.specs.Utf8.{encode}
-use Rattle.ji.specs.Tone.{is_tone, pick_tone}
+use Rattle.ji.specs.Tone.{is_tone}
 use Rattle.ji.specs.Reply.{Reply, refused, over, pick_reply, answered, placed, good, bad, pick_checked}
 use Rattle.ji.specs.Lomaji.Khin.{without_khin}
-use Rattle.ji.specs.Lomaji.Strip.{tone_in}
 use Rattle.ji.specs.declared.reply.Refusal.{Refusal}
-use Rattle.ji.specs.declared.reply.Refusal.TheVariants.{TooLong, OutsideTable, Position, NoRoom}
+use Rattle.ji.specs.declared.reply.Refusal.TheVariants.{TooLong, OutsideTable, NoRoom}
 use Rattle.ji.specs.declared.tone.Tone.{Tone}
 use Rattle.ji.specs.declared.tone.Tone.TheVariants.{None, T1, T2, T3, T4, T5, T6, T7, T8, T9}
 use Rattle.ji.specs.declared.lomaji.khin.Khin.{Khin}
@@ -25,7 +24,7 @@ use Rattle.ji.proofs.Bools.{either, false_true, and_right, text_yes, text_no}
 use Rattle.ji.proofs.Replies.{refusal_some}
 use Rattle.ji.proofs.unicode.Ascii.{ascii_bytes, ascii_take}
 use Rattle.ji.proofs.unicode.Bytes.{but_last_law, encode_append}
-use Rattle.khiin_records.specs.Syllable.{Syllable, raw, pick_syllable, tone_digits, key_tone, from_raw, check_keys, recorded, placed_record, record_reply, tone_digit, khin_key, candidate, pick_syllables, candidates_of, candidate_in}
+use Rattle.khiin_records.specs.Syllable.{Syllable, raw, pick_syllable, key_tone, from_raw, check_keys, recorded, placed_record, record_reply, tone_digit, khin_key, candidate, pick_syllables, candidates_of}
 use Rattle.khiin_records.specs.Records.{RecordOf}
 use Rattle.khiin_records.specs.declared.Record.{Record}
 use Rattle.std.specs.Prelude.{Ok}
@@ -90,19 +89,6 @@ module _ (s : List ℕ) where
 
     pub keys_pass : all_ascii s ≡ true → check_keys s ≡ good s
     keys_pass e = keys_short ∙ ap (λ (b : Bool). pick_checked b (good s) (bad OutsideTable)) e
-
--- a key other than the digits has no tone
-abbrev Apart : List (ℕ × Tone) → ℕ → Type 0
-Apart [] c = Unit {0}
-Apart (m ∷ ms) c = (c ≡ m.0 → ⊥) × Apart ms c
-
-apart : (ms : List (ℕ × Tone)) (c : ℕ) → Apart ms c → None ≡ tone_in ms c
-apart [] c h = refl
-apart (m ∷ ms) c h = apart ms c h.1 ∙ sym (ap (λ (b : Bool). pick_tone b m.1 (tone_in ms c)) (ne_eqb m.0 c (λ e. h.0 (sym e))))
-
-pub no_digit : (c : ℕ) → Apart tone_digits c → None ≡ key_tone c
-unfolding key_tone
-no_digit c h = apart tone_digits c h
 
 -- where the last key is a tone there is one
 pub toned_some : (s : List ℕ) → is_tone (key_tone (last s)) ≡ true → 0 < length s
@@ -201,11 +187,6 @@ module _ (t : Tone) (k : Khin) (s : List ℕ) where
 
   pub candidates_one : listed s 0x0358 ≡ false → candidates_of t k s ≡ candidate t k s (points "u") ∷ []
   candidates_one e = ap (λ (b : Bool). pick_syllables b (candidate t k s (points "u") ∷ candidate t k s (points "o") ∷ []) (candidate t k s (points "u") ∷ [])) e
-
--- a position behind the one candidate
-pub past_one : (a : Syllable) (n : ℕ) (buffer : List ℕ) → (n ≡ 0 → ⊥) → refused Position buffer ≡ candidate_in (a ∷ []) n buffer
-past_one a zero buffer h = absurd (h refl)
-past_one a (suc n) buffer h = refl
 
 -- ── the text behind khin
 members_drop : (n : ℕ) (s : List ℕ) → members unicode16 s ≡ true → members unicode16 (drop n s) ≡ true
