@@ -32,24 +32,10 @@ impl Refusal {
 pub fn place(s: &[u16], out: &mut [u8]) -> Result<ByteLen, Refusal>
     ensures { text_reply result out.new ≡ placed 0 (encode s.now) out.old }
 {
-    if s.len() <= out.len() / 3 {
-        return Ok(utf8::encode(s, out));
-    }
-    if utf8::fits(s, out.len()) {
-        return Ok(utf8::encode(s, out));
-    }
-    Err(Refusal::NoRoom)
-}
-
-// Copies the bytes `s` to the front of `out`, one after the other.
-fn copy_each(s: &[u8], out: &mut [u8])
-    requires { length s.now ≤ length out.old }
-    ensures { Written out.old out.new (length s.now) s.now }
-{
-    let mut i: usize = 0;
-    while i < s.len() {
-        out[i] = s[i];
-        i += 1;
+    if s.len() <= out.len() / 3 || utf8::fits(s, out.len()) {
+        Ok(utf8::encode(s, out))
+    } else {
+        Err(Refusal::NoRoom)
     }
 }
 
@@ -69,7 +55,7 @@ fn copy_few(s: &[u8], out: &mut [u8])
     requires { (length s.now < 4) × (length s.now ≤ length out.old) }
     ensures { Written out.old out.new (length s.now) s.now }
 {
-    if s.len() == 0 {
+    if s.is_empty() {
         return;
     }
     let middle = s.len() / 2;
@@ -79,22 +65,20 @@ fn copy_few(s: &[u8], out: &mut [u8])
     out[last] = s[last];
 }
 
-// Copies the bytes `s` to the front of `out`. Most texts have at most eight, which go without a loop: the first four and the last four, though these may
-// share some.
+// Copies the bytes `s` to the front of `out`. Most texts have at most eight, for which a call of memcpy costs more than the stores (docs/SPEED.md): the first
+// four and the last four, though these may share some.
 pub(crate) fn copy(s: &[u8], out: &mut [u8])
     requires { length s.now ≤ length out.old }
     ensures { Written out.old out.new (length s.now) s.now }
 {
     if 8 < s.len() {
-        copy_each(s, out);
-        return;
-    }
-    if s.len() < 4 {
+        out[..s.len()].copy_from_slice(s);
+    } else if s.len() < 4 {
         copy_few(s, out);
-        return;
+    } else {
+        copy_four(s, 0, out);
+        copy_four(s, s.len() - 4, out);
     }
-    copy_four(s, 0, out);
-    copy_four(s, s.len() - 4, out);
 }
 
 // Writes the bytes `s` of a text to `out`, if there is room for all of them.
@@ -122,10 +106,7 @@ pub fn place_between(
         return Err(Refusal::NoRoom);
     }
     let left = out.len() - before.len();
-    if left < size {
-        return Err(Refusal::NoRoom);
-    }
-    if left - size < after.len() {
+    if left < size || left - size < after.len() {
         return Err(Refusal::NoRoom);
     }
     copy(before, out);

@@ -11,32 +11,22 @@ use crate::unicode::CharLen;
 pub fn lower(x: u16) -> u16
     ensures { result ≡ lower_of x }
 {
-    if x < 0x41 {
-        return x;
+    match x {
+        0x41..=0x5A => x + 32,
+        _ => x,
     }
-    if 0x5A < x {
-        return x;
-    }
-    x + 32
 }
 
 // The same of a byte.
 pub fn lower_byte(x: u8) -> u8
     ensures { result ≡ lower_of x }
 {
-    if x < 0x41 {
-        return x;
-    }
-    if 0x5A < x {
-        return x;
-    }
-    x + 32
+    x.to_ascii_lowercase()
 }
 
-// What replacing answers: how many code points were written, or why none was.
-#[derive(Clone, Copy)]
-pub enum Replaced {
-    Done(CharLen),
+// Why a text is left as it is: what it would become does not go into the buffer, or the pattern is empty.
+#[derive(Clone, Copy, PartialEq, Eq)]
+pub enum Unreplaced {
     NoRoom,
     NoPattern,
 }
@@ -46,17 +36,7 @@ pub(crate) fn begins_at(s: &[u16], at: usize, pattern: &[u16]) -> bool
     requires { at ≤ length s.now }
     ensures { result ≡ begins pattern.now (drop at s.now) }
 {
-    if s.len() - at < pattern.len() {
-        return false;
-    }
-    let mut k: usize = 0;
-    while k < pattern.len() {
-        if s[at + k] != pattern[k] {
-            return false;
-        }
-        k += 1;
-    }
-    true
+    s[at..].starts_with(pattern)
 }
 
 // Writes `src` into `out` from `at` on, and returns the place behind it.
@@ -64,15 +44,13 @@ pub(crate) fn put(src: &[u16], out: &mut [u16], at: usize) -> usize
     requires { at + length src.now ≤ length out.old }
     ensures { (result ≡ at + length src.now) × (out.new ≡ paste out.old at src.now (length src.now)) }
 {
-    let mut k: usize = 0;
-    while k < src.len() {
-        out[at + k] = src[k];
-        k += 1;
-    }
-    at + k
+    let end = at + src.len();
+    out[at..end].copy_from_slice(src);
+    end
 }
 
-// Writes `src`, with each occurrence of `pattern` replaced by `by`, to the front of `out`, and returns its length.
+// Writes `src`, with each occurrence of `pattern` replaced by `by`, to the front of `out`, and returns its length. An occurrence takes the loop as far as
+// the pattern is long, which is the step of no range: here, in `fits` and in `replace_same`.
 pub(crate) fn replace(src: &[u16], pattern: &[u16], by: &[u16], out: &mut [u16]) -> usize
     requires { (0 < length pattern.now) × (length (replace_all pattern.now by.now src.now) ≤ length out.old) }
     ensures { Written out.old out.new result (replace_all pattern.now by.now src.now) }
@@ -101,12 +79,11 @@ fn fits(s: &[u16], pattern: &[u16], by: &[u16], room: usize) -> bool
     let mut i: usize = 0;
     let mut left = room;
     while i < s.len() {
-        let mut width: usize = 1;
-        let mut size: usize = 1;
-        if begins_at(s, i, pattern) {
-            width = pattern.len();
-            size = by.len();
-        }
+        let (width, size) = if begins_at(s, i, pattern) {
+            (pattern.len(), by.len())
+        } else {
+            (1, 1)
+        };
         if left < size {
             return false;
         }
@@ -117,16 +94,21 @@ fn fits(s: &[u16], pattern: &[u16], by: &[u16], room: usize) -> bool
 }
 
 // `s` with each occurrence of `pattern` replaced by `by`, in `out`.
-pub fn replace_all(s: &[u16], pattern: &[u16], by: &[u16], out: &mut [u16]) -> Replaced
+pub fn replace_all(
+    s: &[u16],
+    pattern: &[u16],
+    by: &[u16],
+    out: &mut [u16],
+) -> Result<CharLen, Unreplaced>
     ensures { Replacing pattern.now by.now s.now out.old out.new result }
 {
-    if pattern.len() == 0 {
-        return Replaced::NoPattern;
+    if pattern.is_empty() {
+        return Err(Unreplaced::NoPattern);
     }
-    if fits(s, pattern, by, out.len()) {
-        return Replaced::Done(CharLen(replace(s, pattern, by, out)));
+    if !fits(s, pattern, by, out.len()) {
+        return Err(Unreplaced::NoRoom);
     }
-    Replaced::NoRoom
+    Ok(CharLen(replace(s, pattern, by, out)))
 }
 
 // Replaces each occurrence of `pattern` by `by`, which is as long, so that the rest of the text stays where it is.
@@ -148,7 +130,5 @@ pub(crate) fn replace_same(s: &mut [u16], pattern: &[u16], by: &[u16])
 pub fn replace_pair(s: &mut [u16], a: u16, b: u16, c: u16, d: u16)
     ensures { s.new ≡ replace_all (a ∷ b ∷ []) (c ∷ d ∷ []) s.old }
 {
-    let pattern = [a, b];
-    let by = [c, d];
-    replace_same(s, &pattern, &by);
+    replace_same(s, &[a, b], &[c, d]);
 }

@@ -5,18 +5,59 @@ use mathlib.Core.List.{List, [], ◌∷◌, ◌++◌, append_assoc}
 use Prim.Native.Nat.{ℕ, zero, suc, ◌+◌, ◌*◌, ◌≤◌, ◌<◌, suc-le-suc}
 use native.Mathlib.Nat.{suc-sub-suc, sub-zero, mul-add, mul-suc}
 use native.Mathlib.Numerals.{add-one}
-use native.Mathlib.Decide.{ℕ_discrete}
+use native.Mathlib.Decide.{ℕ_discrete, dec_lt}
 use native.Mathlib.Omega.{arith}
 use borrow.Author.Tests.{eqb-true, eq-eqb, ne_eqb}
 use lib.Dec.{eqb}
-use lib.ListN.{length, drop, get_or, drop_of_length-le, length-append, length-drop}
+use lib.ListN.{length, take, drop, get_or, drop_of_length-le, length-append, length-drop}
 use lib.Seq.{drop-cons, drop-drop}
-use Rattle.ji.specs.Text.{begins, replace_from, replace_all}
-use Rattle.ji.proofs.Bools.{false_true, either, and_false, and_true, and_yes, and_left, and_right, text_yes, text_no}
+use Rattle.std.specs.Char.{to_ascii_lowercase}
+use Rattle.std.specs.Cmp.Lexicographic.{pointwise}
+use Rattle.std.specs.List.{starts_with}
+use Rattle.std.proofs.lemmas.Str.Ascii.{lowercase_is}
+use Rattle.ji.specs.Text.{lower, begins, replace_from, replace_all}
+use Rattle.ji.proofs.Bools.{false_true, either, and_false, and_true, and_yes, and_left, and_right, text_yes, text_no, number_yes, number_no, within_yes, within_below, within_above}
 
 -- a text from i on begins with its element at i
 pub drop_next : (s : List ℕ) (i : ℕ) → i < length s → drop i s ≡ get_or s i 0 ∷ drop (i + 1) s
 drop_next s i more = rw (add-one i) (drop-cons s i 0 more)
+
+-- ── letters in lower case
+module _ (x : ℕ) where
+  pub lower_letter : 65 ≤ x → x ≤ 90 → x + 32 ≡ lower x
+  unfolding lower
+  lower_letter h k = sym (number_yes _ _ _ (within_yes 65 90 x h k))
+
+  pub lower_small : x < 65 → x ≡ lower x
+  unfolding lower
+  lower_small h = sym (number_no _ _ _ (within_below 65 90 x h))
+
+  pub lower_large : 90 < x → x ≡ lower x
+  unfolding lower
+  lower_large h = sym (number_no _ _ _ (within_above 65 90 x h))
+
+  -- a byte in lower case, as std has it
+  pub lower_ascii : to_ascii_lowercase x ≡ lower x
+  lower_ascii = by_range (dec_lt x 65) (dec_lt 90 x)
+    where
+      by_range : Dec (x < 65) → Dec (90 < x) → to_ascii_lowercase x ≡ lower x
+      by_range (yes h) d = (lowercase_is x).1 h ∙ lower_small h
+      by_range (no h) (yes k) = (lowercase_is x).2 k ∙ lower_large k
+      by_range (no h) (no k) = (lowercase_is x).0 (omega arith, omega arith) ∙ lower_letter (omega arith) (omega arith)
+
+-- ── beginnings, as std has them
+eqb_comm : (x y : ℕ) → eqb x y ≡ eqb y x
+eqb_comm x y = either (eqb x y) (λ e. e ∙ sym (eq-eqb y x (sym (eqb-true x y e)))) (λ e. e ∙ sym (ne_eqb y x (λ k. false_true (sym e ∙ eq-eqb x y (sym k)))))
+
+begins_pointwise : (p s : List ℕ) → pointwise eqb p (take (length p) s) ≡ begins p s
+unfolding begins
+begins_pointwise [] [] = refl
+begins_pointwise [] (x ∷ s) = refl
+begins_pointwise (a ∷ p) [] = refl
+begins_pointwise (a ∷ p) (x ∷ s) = ap₂ ◌&&◌ (eqb_comm a x) (begins_pointwise p s)
+
+pub begins_with : (s p : List ℕ) → starts_with eqb s p ≡ begins p s
+begins_with s p = begins_pointwise p s
 
 -- ── beginnings
 -- a text that is shorter than a pattern does not begin with it
@@ -36,11 +77,6 @@ begins_length (a ∷ p) (x ∷ s) e = suc-le-suc (begins_length p s (and_right (
 pub begins_step : (p s : List ℕ) (k i : ℕ) → k < length p → i < length s → begins (drop k p) (drop i s) ≡ (eqb (get_or s i 0) (get_or p k 0) && begins (drop (k + 1) p) (drop (i + 1) s))
 unfolding begins
 begins_step p s k i hp hs = rw (drop_next p k hp, drop_next s i hs)
-
--- the whole pattern is passed
-pub begins_end : (p s : List ℕ) (k : ℕ) → length p ≤ k → begins (drop k p) s ≡ true
-unfolding begins
-begins_end p s k h = rw (drop_of_length-le p h)
 
 -- a text that begins with p is p and the rest
 pub begins_split : (p s : List ℕ) → begins p s ≡ true → s ≡ p ++ drop (length p) s

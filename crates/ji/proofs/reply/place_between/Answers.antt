@@ -8,7 +8,7 @@ use Rattle.ji.proofs.Replies.{placed_not, placed_written}
 use Rattle.ji.proofs.Writing.{written_run, written_behind}
 use native.Mathlib.Omega.{arith}
 use Rattle.ji.proofs.reply.place_between.Goals as goal
-use Rattle.ji.proofs.reply.place_between.Goals.{After-byte_count-size}
+use Rattle.ji.proofs.reply.place_between.Goals.{After-byte_count-size, then-left-size-via-then-left-size, then-left-size-via-else-left-size+then-left-size-2}
 
 -- the whole text, and its length
 module _ (c : After-byte_count-size) where
@@ -24,11 +24,13 @@ pub returns-then-out-before : goal.returns-then-out-before
 returns-then-out-before c = placed_not 0 (text (goal.at.returns-then-out-before c).After-byte_count-size) c.args.out.now (omega (arith, text_length (goal.at.returns-then-out-before c).After-byte_count-size, c.if-out-before.true))
 
 pub returns-then-left-size : goal.returns-then-left-size
-returns-then-left-size c = placed_not 0 (text (goal.at.returns-then-left-size c).After-byte_count-size) c.args.out.now (omega (arith, text_length (goal.at.returns-then-left-size c).After-byte_count-size, c.if-left-size.true, c.if-out-before.false))
-
-pub returns-then-left-size-2 : goal.returns-then-left-size-2
-returns-then-left-size-2 c =
-    placed_not 0 (text (goal.at.returns-then-left-size-2 c).After-byte_count-size) c.args.out.now (omega (arith, text_length (goal.at.returns-then-left-size-2 c).After-byte_count-size, c.if-left-size-2.true, c.if-left-size.false, c.if-out-before.false))
+returns-then-left-size c =
+    let d = (goal.at.returns-then-left-size c).After-byte_count-size in
+    placed_not 0 (text d) c.args.out.now
+    elim c.then-left-size.branch [
+      | then-left-size-via-then-left-size w ↦ omega (arith, text_length d)
+      | then-left-size-via-else-left-size+then-left-size-2 w ↦ omega (arith, text_length d)
+    ]
 
 pub returns : goal.returns
 returns c =

@@ -50,11 +50,11 @@ module _ (c : Joined-begins_at) where
   abbrev more : i < length s
   more = c.loop-i-test.true
 
-  piece : Piece pattern by s i c.if-begins_at.width c.if-begins_at.size
+  piece : Piece pattern by s i c.if-begins_at.width.0 c.if-begins_at.width.1
   piece =
       elim c.if-begins_at.branch [
-        | then-begins_at w ↦ hit pattern by s i _ _ more c.requires (sym c.begins_at.ensures ∙ w.if-begins_at.true) w.width-is w.size-is
-        | else-begins_at w ↦ miss pattern by s i _ _ more (sym c.begins_at.ensures ∙ w.if-begins_at.false) w.width-is w.size-is
+        | then-begins_at w ↦ hit pattern by s i _ _ more c.requires (sym c.begins_at.ensures ∙ w.if-begins_at.true) (ap (λ (p : ℕ × ℕ). p.0) w.width-is) (ap (λ (p : ℕ × ℕ). p.1) w.width-is)
+        | else-begins_at w ↦ miss pattern by s i _ _ more (sym c.begins_at.ensures ∙ w.if-begins_at.false) (ap (λ (p : ℕ × ℕ). p.0) w.width-is) (ap (λ (p : ℕ × ℕ). p.1) w.width-is)
       ]
 
 pub returns-then-left-size : goal.returns-then-left-size

@@ -1,16 +1,12 @@
-use mathlib.Core.Path.{sym}
-use Rattle.ji.specs.Text.{lower}
-use Rattle.ji.proofs.Bools.{number_yes, number_no, within_yes, within_below, within_above}
+use native.Mathlib.Omega.{arith}
+use Rattle.ji.proofs.text.Laws.{lower_letter, lower_small, lower_large}
 use Rattle.ji.proofs.text.lower.Goals as goal
 
-pub returns-then-x-lt65 : goal.returns-then-x-lt65
-unfolding lower
-returns-then-x-lt65 c = sym (number_no _ _ _ (within_below 65 90 c.args.x c.if-x-lt65.true))
+pub returns-in-65-to-90 : goal.returns-in-65-to-90
+returns-in-65-to-90 c = lower_letter c.args.x (omega arith) (omega arith)
 
-pub returns-then-x-gt90 : goal.returns-then-x-gt90
-unfolding lower
-returns-then-x-gt90 c = sym (number_no _ _ _ (within_above 65 90 c.args.x c.if-x-gt90.true))
+pub returns-in_default : goal.returns-in_default
+returns-in_default c = lower_small c.args.x (omega arith)
 
-pub returns : goal.returns
-unfolding lower
-returns c = sym (number_yes _ _ _ (within_yes 65 90 c.args.x c.if-x-lt65.false c.if-x-gt90.false))
+pub returns-in_default-2 : goal.returns-in_default-2
+returns-in_default-2 c = lower_large c.args.x (omega arith)
