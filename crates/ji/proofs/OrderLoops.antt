@@ -1,14 +1,19 @@
 -- The loops that put a text into canonical order, over any table: what holds at each turn.
-use mathlib.Core.Path.{◌≡◌, refl, sym, ◌∙◌, subst}
+use mathlib.Core.Path.{◌≡◌, refl, sym, ap, ◌∙◌, subst}
+use mathlib.Core.Bool.{Bool, true, false, ◌&&◌}
 use mathlib.Core.List.{List, [], ◌∷◌, ◌++◌, append_assoc, append-nil}
-use Prim.Native.Nat.{ℕ, zero, suc, ◌+◌, ◌-◌, ◌<◌, ◌≤◌}
-use native.Mathlib.Numerals.{add-one}
+use Prim.Native.Nat.{ℕ, suc, ◌+◌, ◌-◌, ◌<◌, ◌≤◌}
+use native.Mathlib.Numerals.{add-one, one-add}
 use native.Mathlib.Omega.{arith}
-use lib.ListN.{length, take, drop, get_or, set, length-set, drop_of_length-le, get_or-append}
-use lib.Seq.{drop-cons, set_split, take-suc-set, drop-set-lt, drop_at, length-take-le, get_or-take, take-append-le, take-take, take-length, drop-length}
+use lib.ListN.{length, take, drop, get_or, drop_of_length-le, get_or-append}
+use lib.Seq.{drop-cons, drop_at, length-take-le, get_or-take, take-append-le, take-take, take-length, drop-length}
+use Rattle.std.specs.Prelude.{cond, ltb}
+use Rattle.std.specs.List.{prefix_len}
 use Rattle.ucd.specs.Table.{Table, combining_class}
-use Rattle.ji.specs.Nfd.{Reorderable, NoPair, Ordered, insert, order}
-use Rattle.ji.proofs.Order.{reorderable_true, insert_past, insert_fixed, order_nil, order_cons}
+use Rattle.ji.specs.Nfd.{reorderable, Ordered, insert, order}
+use Rattle.ji.proofs.Order.{insert_nil, insert_past, insert_here, order_nil, order_cons}
+use Rattle.std.proofs.lemmas.List.Sums.{prefix_len-le-length}
+use Rattle.ji.proofs.text.Laws.{drop_next}
 
 module _ (t : Table) where
   -- s is in order, and so is it behind a code point of class k
@@ -60,39 +65,31 @@ module _ (t : Table) where
   pub checking_end : {s : List ℕ} {k i : ℕ} → Checking s k i → length s ≤ i → Ordered t s
   checking_end {s} p h = p.enough (rw (drop_of_length-le s h) tt)
 
-  -- the insertion of a: it has come from place i of s₀ to place j of s
-  pub record Inserting (s₀ : List ℕ) (i a : ℕ) (s : List ℕ) (j : ℕ) : Type 0 where
-    pub within : j < length s
-    pub size : length s ≡ length s₀
-    pub text : take j s ++ insert t a (drop (j + 1) s) ≡ take i s₀ ++ insert t a (drop (i + 1) s₀)
+  -- the insertion of a, of class k: it goes behind the code points that it is exchanged with
+  abbrev pub passed : ℕ → List ℕ → ℕ
+  passed k s = prefix_len (λ b. ltb 0 (combining_class t b) && ltb (combining_class t b) k) s
 
-  -- a moves past b, which takes its place
-  insert_moved : (a b : ℕ) (s : List ℕ) (j : ℕ) → j + 1 < length s → b ≡ get_or s (j + 1) 0 → Reorderable t a b
-      → take (j + 1) (set s j b) ++ insert t a (drop (j + 1 + 1) (set s j b)) ≡ take j s ++ insert t a (drop (j + 1) s)
-  insert_moved a b s j h e w =
-      let moved : take (j + 1) (set s j b) ≡ take j s ++ (b ∷ []) = rw (add-one j) (take-suc-set s j b (omega arith)) in
-      rw (moved, drop-set-lt (j + 1 + 1) s j b (omega arith), append_assoc (take j s) (b ∷ []) (insert t a (drop (j + 1 + 1) s)), add-one (j + 1))
-      (rw (drop-cons s (j + 1) 0 h, ← e, insert_past t a b (drop (suc (j + 1)) s) (reorderable_true t a b w)))
+  pub passed_within : (k : ℕ) (s : List ℕ) → passed k s ≤ length s
+  passed_within k s = prefix_len-le-length _ s
 
-  -- a stays where the next code point is no pair with it, or there is none
-  no_pair_at : (a : ℕ) (s : List ℕ) (k : ℕ) → (k < length s → Reorderable t a (get_or s k 0) → ⊥) → NoPair t a (drop k s)
-  no_pair_at a [] zero h = tt
-  no_pair_at a [] (suc k) h = tt
-  no_pair_at a (c ∷ s) zero h = h (omega arith)
-  no_pair_at a (c ∷ s) (suc k) h = no_pair_at a s k (λ l. h (omega arith))
+  insert_split : (a : ℕ) (s : List ℕ) → let n = passed (combining_class t a) s in insert t a s ≡ take n s ++ (a ∷ drop n s)
+  unfolding reorderable
+  insert_split a [] = insert_nil t a
+  insert_split a (b ∷ s) = step (reorderable t a b) (passed (combining_class t a) s) refl (insert_split a s)
+    where
+      step : (r : Bool) (n : ℕ) → r ≡ reorderable t a b → insert t a s ≡ take n s ++ (a ∷ drop n s)
+          → let m = cond r (1 + n) 0 in insert t a (b ∷ s) ≡ take m (b ∷ s) ++ (a ∷ drop m (b ∷ s))
+      step true n e h = rw one-add (insert_past t a b s (sym e) ∙ ap (λ (u : List ℕ). b ∷ u) h)
+      step false n e h = insert_here t a b s (sym e)
 
-  module _ {s₀ : List ℕ} {i a : ℕ} {s : List ℕ} {j : ℕ} (p : Inserting s₀ i a s j) where
-    pub inserting_more : j + 1 < length s → Reorderable t a (get_or s (j + 1) 0) → Inserting s₀ i a (set s j (get_or s (j + 1) 0)) (j + 1)
-    inserting_more h w =
-        record {
-          within = simp length-set h;
-          size = length-set s j (get_or s (j + 1) 0) ∙ p.size;
-          text = insert_moved a (get_or s (j + 1) 0) s j h refl w ∙ p.text;
-        }
-
-    pub inserting_end : (j + 1 < length s → Reorderable t a (get_or s (j + 1) 0) → ⊥) → set s j a ≡ take i s₀ ++ insert t a (drop (i + 1) s₀)
-    inserting_end n =
-        set_split s j a p.within ∙ rw (← add-one j, ← insert_fixed t a (drop (j + 1) s) (no_pair_at a s (j + 1) n)) p.text
+  -- the part of s that begins with it is turned by one, which is as long as k says
+  pub insert_turned : (s : List ℕ) (i n k : ℕ) → i < length s → n ≡ passed (combining_class t (get_or s i 0)) (drop (i + 1) s) → k ≡ suc n
+      → (u : List ℕ) → u ≡ drop 1 (take k (drop i s)) ++ take 1 (take k (drop i s))
+      → take i s ++ (u ++ drop k (drop i s)) ≡ take i s ++ insert t (get_or s i 0) (drop (i + 1) s)
+  insert_turned s i n k h is_n is_k u is_u =
+      ap (λ (v : List ℕ). take i s ++ v)
+      (rw (is_u, is_k, drop_next s i h, append_assoc (take n (drop (i + 1) s)) (get_or s i 0 ∷ []) (drop n (drop (i + 1) s)), is_n)
+      (sym (insert_split (get_or s i 0) (drop (i + 1) s))))
 
   -- the insertions, from the last code point to that at i
   pub record Sorting (s₀ s : List ℕ) (i : ℕ) : Type 0 where

@@ -39,8 +39,8 @@ module _ (t : Table) (s before after : List ℕ) where
     pub nfd_refused : (why : Refusal) → Reading t true s before after (Err why) → NfdReading t s before after (Err why)
     nfd_refused why r = (check_within_law t s h ∙ r.0, r.1.is ∙ sym (text_yes _ _ _ (le-leb _ _ h)))
 
-    pub nfd_ordered : (n : ℕ) (front' : List ℕ) → Reading t true s before after (Ok (record { 0 = n })) → front' ≡ order t (take (n - 0) after) → NfdReading t s before (front' ++ drop (n - 0) after) (Ok (record { 0 = n }))
+    pub nfd_ordered : (n : ℕ) (front' : List ℕ) → Reading t true s before after (Ok (record { 0 = n })) → front' ≡ order t (take n after) → NfdReading t s before (front' ++ drop n after) (Ok (record { 0 = n }))
     unfolding nfd spread
     nfd_ordered n front' r e =
         let w = r.2 in
-        (r.0, check_within_law t s h ∙ r.1, rw (e, front w, sub-zero n) (written_over w (order t (spread t true r.0)) (order_length t (spread t true r.0) ∙ w.size)))
+        (r.0, check_within_law t s h ∙ r.1, rw (e, written_take w) (written_over w (order t (spread t true r.0)) (order_length t (spread t true r.0) ∙ w.size)))

@@ -1,5 +1,6 @@
 // Canonical order (the Unicode Standard, 3.11, D108 and D109), of code points in their buffer, and NFD (D118).
-ghost use Rattle.std.specs.Prelude.{◌≡◌, true, false, ◌++◌, ◌+◌, ◌*◌, ◌<◌, ◌≤◌, length, take, drop, get_or};
+ghost use Rattle.std.specs.Prelude.{◌≡◌, true, false, ◌&&◌, ◌++◌, ◌+◌, ◌*◌, ◌<◌, ◌≤◌, ltb, length, take, drop, get_or};
+ghost use Rattle.std.specs.List.{prefix_len};
 ghost use Rattle.ucd.specs.Table.{combining_class};
 ghost use Rattle.ucd.specs.Unicode16.{unicode16};
 ghost use Rattle.ji.specs.Reply.{text_call, text_reply};
@@ -20,29 +21,31 @@ pub(crate) fn class_of(c: u16) -> u8
     ucd::combining_class(c)
 }
 
-// No pair of s is reorderable. What stands below U+0300 is passed over without a call.
+// No pair of s is reorderable.
 fn is_ordered(s: &[u16]) -> bool
     ensures { (result ≡ true → Ordered unicode16 s.now) × (result ≡ false → Ordered unicode16 s.now → ⊥) }
 {
     let mut before: u8 = 0;
-    let mut i: usize = 0;
-    while i < s.len() {
-        let c = s[i];
-        if c < 0x0300 {
-            before = 0;
-            i += 1;
-        } else {
-            let class = class_of(c);
-            if class < before {
-                if 0 < class {
-                    return false;
-                }
-            }
-            before = class;
-            i += 1;
+    for &c in s {
+        let class = class_of(c);
+        if 0 < class && class < before {
+            return false;
         }
+        before = class;
     }
     true
+}
+
+// How many code points, from the front of s on, one of this class is exchanged with.
+fn passed(class: u8, s: &[u16]) -> usize
+    ensures { result ≡ prefix_len (λ b. ltb 0 (combining_class unicode16 b) && ltb (combining_class unicode16 b) class) s.now }
+{
+    s.iter()
+        .take_while(|&&b| {
+            let next = class_of(b);
+            0 < next && next < class
+        })
+        .count()
 }
 
 // Moves the code point at i behind those that it is exchanged with.
@@ -50,31 +53,15 @@ fn insert(s: &mut [u16], i: usize)
     requires { i < length s.old }
     ensures { s.new ≡ take i s.old ++ insert unicode16 (get_or s.old i 0) (drop (i + 1) s.old) }
 {
-    let a = s[i];
-    let class = class_of(a);
-    let mut j = i;
-    while j + 1 < s.len() {
-        let b = s[j + 1];
-        let next = class_of(b);
-        if next == 0 {
-            break;
-        }
-        if class <= next {
-            break;
-        }
-        s[j] = b;
-        j += 1;
-    }
-    s[j] = a;
+    let end = i + 1 + passed(class_of(s[i]), &s[i + 1..]);
+    s[i..end].rotate_left(1);
 }
 
 // The insertions, from the last code point to the first.
 fn sort(s: &mut [u16])
     ensures { s.new ≡ order unicode16 s.old }
 {
-    let mut i = s.len();
-    while 0 < i {
-        i -= 1;
+    for i in (0..s.len()).rev() {
         insert(s, i);
     }
 }
@@ -83,10 +70,9 @@ fn sort(s: &mut [u16])
 pub(crate) fn order(s: &mut [u16])
     ensures { s.new ≡ order unicode16 s.old }
 {
-    if is_ordered(s) {
-        return;
+    if !is_ordered(s) {
+        sort(s);
     }
-    sort(s);
 }
 
 // Reads `text` into `points`, in NFD.
@@ -98,9 +84,8 @@ pub(crate) fn read_nfd(text: &[u8], points: &mut [u16]) -> Result<CharLen, Refus
         return Err(Refusal::TooLong);
     }
     let len = unicode::decode(text, true, points)?;
-    let n = len.0;
-    order(&mut points[0..n]);
-    Ok(CharLen(n))
+    order(&mut points[..len.0]);
+    Ok(len)
 }
 
 // NFD of `text`, in `out`.
@@ -109,6 +94,5 @@ pub fn to_nfd(text: &[u8], out: &mut [u8]) -> Result<ByteLen, Refusal>
 {
     let mut points = [0u16; 384];
     let len = read_nfd(text, &mut points)?;
-    let n = len.0;
-    reply::place(&points[0..n], out)
+    reply::place(&points[..len.0], out)
 }

@@ -1,22 +1,39 @@
--- `ji::nfd::insert` meets its contract. The loop's invariant: with the code point inserted behind j, the text is what it is to become.
-use mathlib.Core.Path.{refl}
+use mathlib.Core.Path.{◌≡◌, ap₂, ◌∙◌}
+use mathlib.Core.List.{List}
+use Prim.Native.Nat.{ℕ, ◌+◌, ◌-◌, ◌≤◌}
 use native.Mathlib.Omega.{arith}
-use lib.ListN.{length-set}
+use lib.ListN.{length, take, drop, get_or, length-drop}
+use lib.Seq.{take_all}
+use Rattle.ucd.specs.Table.{combining_class}
 use Rattle.ucd.specs.Unicode16.{unicode16}
-use Rattle.ji.proofs.OrderLoops.{inserting_more, inserting_end}
+use Rattle.ji.proofs.OrderLoops.{passed, passed_within, insert_turned}
 use Rattle.ji.proofs.nfd.insert.Goals as goal
+use Rattle.ji.proofs.nfd.insert.Goals.{After-passed}
 
-pub loop-j-init : goal.loop-j-init
-loop-j-init c = record { within = omega arith; size = refl; text = refl }
+module _ (c : After-passed) where
+  abbrev s : List ℕ
+  s = c.args.s.now
 
-pub loop-j-smaller : goal.loop-j-smaller
-loop-j-smaller c = simp length-set (omega arith)
+  abbrev rest : List ℕ
+  rest = drop (c.args.i + 1) s
 
-pub loop-j-preserved : goal.loop-j-preserved
-loop-j-preserved c =
-    inserting_more unicode16 c.loop-j.invariant c.loop-j-test.true (omega arith)
+  whole : take (length s - (c.args.i + 1)) rest ≡ rest
+  whole = take_all (length s - (c.args.i + 1)) rest (omega (arith, length-drop (c.args.i + 1) s))
+
+  number : c.passed.result ≡ passed unicode16 (combining_class unicode16 (get_or s c.args.i 0)) rest
+  number = c.passed.ensures ∙ ap₂ (passed unicode16) c.class_of.ensures whole
+
+  inside : c.args.i + 1 + c.passed.result ≤ length s
+  inside = omega (arith, number, passed_within unicode16 (combining_class unicode16 (get_or s c.args.i 0)) rest, length-drop (c.args.i + 1) s)
+
+pub overflow_add-end-2 : goal.overflow_add-end-2
+overflow_add-end-2 c = omega (arith, inside (goal.at.overflow_add-end-2 c).After-passed)
+
+pub slice_bounds-rotate_left-end : goal.slice_bounds-rotate_left-end
+slice_bounds-rotate_left-end c = omega (arith, inside (goal.at.slice_bounds-rotate_left-end c).After-passed)
 
 pub returns : goal.returns
 returns c =
-    inserting_end unicode16 c.loop-j.invariant
-    (λ h w. grind arith)
+    let a = c.args in
+    let turned = c.rotate_left in
+    insert_turned unicode16 a.s.now a.i c.passed.result _ c.requires (number (goal.at.returns c).After-passed) (omega arith) turned.new.self turned.ensures.after

@@ -6,16 +6,13 @@ use Rattle.ucd.specs.Unicode16.{unicode16}
 use Rattle.ji.specs.Utf8.{encode}
 use Rattle.ji.specs.Nfd.{nfd}
 use Rattle.ji.specs.Reply.{placed}
-use Rattle.ji.proofs.Writing.{written_length}
+use Rattle.ji.proofs.Writing.{written_part, written_take}
 use Rattle.ji.proofs.Replies.{text_refused, text_good}
-use Rattle.ji.proofs.Readings.{front, nfd_told}
-use native.Mathlib.Omega.{arith}
+use Rattle.ji.proofs.Readings.{nfd_told}
 use Rattle.ji.proofs.nfd.to_nfd.Goals as goal
 
 pub slice_bounds-place-end : goal.slice_bounds-place-end
-slice_bounds-place-end c =
-    let w = (nfd_told unicode16 _ _ _ c.in_ok-len.was c.read_nfd.ensures).2 in
-    omega (arith, w.fits, written_length w)
+slice_bounds-place-end c = written_part (nfd_told unicode16 _ _ _ c.in_ok-len.was c.read_nfd.ensures).2
 
 pub returns-in_err-len : goal.returns-in_err-len
 returns-in_err-len c =
@@ -27,4 +24,4 @@ pub returns : goal.returns
 returns c =
     let a = c.args in
     let h = nfd_told unicode16 _ _ _ c.in_ok-len.was c.read_nfd.ensures in
-    c.place.ensures ∙ ap (λ (s : List ℕ). placed 0 (encode s) a.out.now) (front h.2) ∙ text_good unicode16 (nfd unicode16) a.text.now a.out.now h.0 h.1
+    c.place.ensures ∙ ap (λ (s : List ℕ). placed 0 (encode s) a.out.now) (written_take h.2) ∙ text_good unicode16 (nfd unicode16) a.text.now a.out.now h.0 h.1
