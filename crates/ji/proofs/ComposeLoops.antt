@@ -169,41 +169,41 @@ module _ (t : Table) where
               ap (λ (k : ℕ). get_or s k 0) (sym z) ∙ sym (get_or-drop n s (i - n) 0) ∙ ap (λ (l : List ℕ). get_or l (i - n) 0) p.rest
               ∙ get_or-drop n s₀ (i - n) 0 ∙ ap (λ (k : ℕ). get_or s₀ k 0) z
 
-      -- it was put to R1 and R2, and the n that are done became u. `m` is n as a part of a slice has it, n - 0
-      module _ (m : ℕ) (z : m ≡ n) (r : Bool) (u : List ℕ) (a : Absorbed (take m s) c r u) (l : length u ≡ length (take m s)) where
+      -- it was put to R1 and R2, and the n that are done became u
+      module _ (r : Bool) (u : List ℕ) (a : Absorbed (take n s) c r u) (l : length u ≡ length (take n s)) where
         done : length u ≡ n
-        done = l ∙ rw z (length-take-le n s room)
+        done = l ∙ length-take-le n s room
 
-        whole : length (u ++ drop m s) ≡ length s₀
+        whole : length (u ++ drop n s) ≡ length s₀
         whole = simp (length-append, length-drop) (omega (arith, p.size, room, done))
 
-        pub composing_room : n < length (u ++ drop m s)
+        pub composing_room : n < length (u ++ drop n s)
         composing_room = omega (arith, p.below, whole)
 
         -- it was absorbed
-        pub composing_absorbed : r ≡ true → Composing s₀ (u ++ drop m s) n (i + 1)
+        pub composing_absorbed : r ≡ true → Composing s₀ (u ++ drop n s) n (i + 1)
         composing_absorbed e =
-            let joined : absorb t c (reversed (take n s)) ≡ some (reversed u) = sym (rw (e, z) at a.0) in
+            let joined : absorb t c (reversed (take n s)) ≡ some (reversed u) = sym (rw e at a.0) in
             record {
               below = omega (arith, p.below);
               within = omega arith;
               size = whole;
-              rest = rw (z, drop_at u (drop n s) n done) p.rest;
+              rest = rw (drop_at u (drop n s) n done) p.rest;
               text =
-                  rw (z, take_at u (drop n s) n done, ← compose_absorbed t c (reversed (take n s)) (reversed u) (drop (i + 1) s₀) joined, ← next)
+                  rw (take_at u (drop n s) n done, ← compose_absorbed t c (reversed (take n s)) (reversed u) (drop (i + 1) s₀) joined, ← next)
                   p.text;
             }
 
         -- it stays
-        pub composing_kept : r ≡ false → Composing s₀ (set (u ++ drop m s) n c) (n + 1) (i + 1)
+        pub composing_kept : r ≡ false → Composing s₀ (set (u ++ drop n s) n c) (n + 1) (i + 1)
         composing_kept e =
-            let same : u ++ drop m s ≡ s = rw (a.1 e) (take-append-drop m s) in
-            let alone : absorb t c (reversed (take n s)) ≡ none = sym (rw (e, z) at a.0) in
+            let same : u ++ drop n s ≡ s = rw (a.1 e) (take-append-drop n s) in
+            let alone : absorb t c (reversed (take n s)) ≡ none = sym (rw e at a.0) in
             let longer : take (n + 1) (set s n c) ≡ take n s ++ (c ∷ []) = rw (add-one n) (take-suc-set s n c (omega (arith, p.below, p.size))) in
             record {
               below = omega (arith, p.below);
               within = omega arith;
-              size = length-set (u ++ drop m s) n c ∙ whole;
+              size = length-set (u ++ drop n s) n c ∙ whole;
               rest = rw (same, drop-set-lt (n + 1) s n c (omega arith), ← drop-drop 1 n s, ← drop-drop 1 n s₀, p.rest);
               text =
                   rw (same, longer, reversed_snoc (take n s) c, ← compose_kept t c (reversed (take n s)) (drop (i + 1) s₀) alone, ← next)

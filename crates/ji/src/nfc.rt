@@ -1,10 +1,11 @@
 // Canonical composition (the Unicode Standard, 3.11, D115 and D117), of code points in their buffer, and NFC (D120).
-ghost use Rattle.std.specs.Prelude.{◌≡◌, true, false, ◌++◌, ◌≤◌, length, drop, ◌*◌};
+ghost use Rattle.std.specs.Prelude.{◌≡◌, true, false, ◌++◌, ◌*◌, ◌/◌, ◌≤◌, length, drop};
 ghost use Rattle.std.proofs.Math.Option.{none, some};
 ghost use Rattle.ucd.specs.Unicode16.{unicode16};
 ghost use Rattle.ji.specs.Utf8.{encode};
-ghost use Rattle.ji.specs.Reply.{placed, text_call, text_reply};
+ghost use Rattle.ji.specs.Reply.{over, placed, text_call, text_reply};
 ghost use Rattle.ji.specs.Normalising.{exchanged, exchanged_call, Normalising};
+ghost use Rattle.ji.specs.Nfd.{nfd};
 ghost use Rattle.ji.specs.Nfc.{pick_done, reversed, absorb, compose, nfc};
 
 use crate::reply::Refusal;
@@ -22,21 +23,15 @@ fn absorb(s: &mut [u16], c: u16) -> bool
         return false;
     }
     let class = ucd::combining_class(c);
-    let mut i = s.len();
-    while 0 < i {
-        i -= 1;
+    for i in (0..s.len()).rev() {
         let b = s[i];
         let before = nfd::class_of(b);
         if before == 0 {
-            match ucd::composite(b, c) {
-                Some(p) => {
-                    s[i] = p;
-                    return true;
-                }
-                None => {
-                    return false;
-                }
-            }
+            let Some(p) = ucd::composite(b, c) else {
+                return false;
+            };
+            s[i] = p;
+            return true;
         }
         if class <= before {
             return false;
@@ -51,17 +46,25 @@ pub(crate) fn compose(s: &mut [u16]) -> usize
         × (s.new ≡ compose unicode16 s.old ++ drop result s.old) }
 {
     let mut n: usize = 0;
-    let mut i: usize = 0;
-    while i < s.len() {
+    for i in 0..s.len() {
         let c = s[i];
-        i += 1;
-        if absorb(&mut s[0..n], c) {
-            continue;
+        if !absorb(&mut s[..n], c) {
+            s[n] = c;
+            n += 1;
         }
-        s[n] = c;
-        n += 1;
     }
     n
+}
+
+// Makes the NFC of the code points `s` at the front of `work`, where their NFD is made first, and returns its length.
+fn make(s: &[u16], work: &mut [u16]) -> usize
+    requires { length s.now ≤ length work.old / 3 }
+    ensures { (result ≡ length (nfc unicode16 s.now))
+        × (work.new ≡ over (nfc unicode16 s.now) (over (nfd unicode16 s.now) work.old)) }
+{
+    let n = unicode::decompose(s, work);
+    nfd::order(&mut work[..n]);
+    compose(&mut work[..n])
 }
 
 // NFC of the code points `s`, at the front of `out`. The buffer has to have three places for each, where their NFD is made.
@@ -71,22 +74,19 @@ pub fn normalise(s: &[u16], out: &mut [u16]) -> Option<CharLen>
     if out.len() / 3 < s.len() {
         return None;
     }
-    let n = unicode::decompose(s, out);
-    nfd::order(&mut out[0..n]);
-    let m = compose(&mut out[0..n]);
-    Some(CharLen(m))
+    Some(CharLen(make(s, out)))
 }
 
-// NFC of the code points `s`, made in `work`, with each `a` `b` in it exchanged, in `out`.
-fn place_in(s: &[u16], a: u16, b: u16, work: &mut [u16], out: &mut [u8]) -> Result<ByteLen, Refusal>
-    requires { 3 * length s.now ≤ length work.old }
+// NFC of the code points `s`, made in a buffer of N places, with each `a` `b` in it exchanged, in `out`.
+fn place_in<const N: usize>(s: &[u16], a: u16, b: u16, out: &mut [u8]) -> Result<ByteLen, Refusal>
+    requires bounded { N ≤ 65536 }
+    requires room { 3 * length s.now ≤ N }
     ensures { text_reply result out.new ≡ placed 0 (encode (exchanged a b (nfc unicode16 s.now))) out.old }
 {
-    let n = unicode::decompose(s, work);
-    nfd::order(&mut work[0..n]);
-    let m = compose(&mut work[0..n]);
-    replace_pair(&mut work[0..m], a, b, b, a);
-    reply::place(&work[0..m], out)
+    let mut work = [0u16; N];
+    let n = make(s, &mut work);
+    replace_pair(&mut work[..n], a, b, b, a);
+    reply::place(&work[..n], out)
 }
 
 // NFC of the code points `s`, with each `a` `b` in it exchanged, in `out`. Short texts are normalised in a small buffer, since clearing it is quicker.
@@ -94,14 +94,12 @@ pub fn place_exchanged(s: &[u16], a: u16, b: u16, out: &mut [u8]) -> Result<Byte
     ensures { text_reply result out.new ≡ exchanged_call unicode16 a b s.now out.old }
 {
     if s.len() <= 24 {
-        let mut work = [0u16; 72];
-        return place_in(s, a, b, &mut work, out);
+        place_in::<72>(s, a, b, out)
+    } else if s.len() <= 1024 {
+        place_in::<3072>(s, a, b, out)
+    } else {
+        Err(Refusal::TooLong)
     }
-    if s.len() <= 1024 {
-        let mut work = [0u16; 3072];
-        return place_in(s, a, b, &mut work, out);
-    }
-    Err(Refusal::TooLong)
 }
 
 // Composes `s`, which is in NFD, and writes it to `out`.
@@ -109,7 +107,7 @@ fn place_composed(s: &mut [u16], out: &mut [u8]) -> Result<ByteLen, Refusal>
     ensures { text_reply result out.new ≡ placed 0 (encode (compose unicode16 s.old)) out.old }
 {
     let n = compose(s);
-    reply::place(&s[0..n], out)
+    reply::place(&s[..n], out)
 }
 
 // NFC of `text`, in `out`.
@@ -118,6 +116,5 @@ pub fn to_nfc(text: &[u8], out: &mut [u8]) -> Result<ByteLen, Refusal>
 {
     let mut points = [0u16; 384];
     let len = nfd::read_nfd(text, &mut points)?;
-    let n = len.0;
-    place_composed(&mut points[0..n], out)
+    place_composed(&mut points[..len.0], out)
 }

@@ -13,15 +13,15 @@ returns-then-c-lt768 c = (sym (low_stays c.args.c c.if-c-lt768.true (reversed c.
 pub loop-i-init : goal.loop-i-init
 loop-i-init c = searching_start unicode16 c.args.s.now c.args.c
 
-pub returns-in-Some : goal.returns-in-Some
-returns-in-Some c =
+pub returns-then-before-eq0 : goal.returns-then-before-eq0
+returns-then-before-eq0 c =
     searching_some unicode16 c.loop-i.invariant c.loop-i-test.true (sym c.class_of-before.ensures ∙ c.if-before-eq0.true)
     c.in-Some.p (sym (ap point_of c.in-Some.is) ∙ c.composite.ensures)
 
-pub returns-in-None : goal.returns-in-None
-returns-in-None c =
+pub returns-in_default : goal.returns-in_default
+returns-in_default c =
     searching_none unicode16 c.loop-i.invariant c.loop-i-test.true (sym c.class_of-before.ensures ∙ c.if-before-eq0.true)
-    (sym (ap point_of c.in-None.is) ∙ c.composite.ensures)
+    (sym (ap point_of c.in_default.is) ∙ c.composite.ensures)
 
 pub returns-then-class-before : goal.returns-then-class-before
 returns-then-class-before c =

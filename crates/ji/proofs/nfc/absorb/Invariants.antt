@@ -5,6 +5,3 @@ use Rattle.ji.proofs.nfc.absorb.Given as goal
 
 abbrev pub invariant-loop-i : goal.invariant-loop-i
 invariant-loop-i l = Searching unicode16 l.initial.s l.c l.s l.i
-
-abbrev pub decreases-loop-i : goal.decreases-loop-i
-decreases-loop-i l = l.i

@@ -6,8 +6,7 @@ use Rattle.ji.specs.Written.{Written}
 use Rattle.ji.specs.Utf8.{encode}
 use Rattle.ji.specs.Nfc.{compose}
 use Rattle.ji.specs.Reply.{placed}
-use Rattle.ji.proofs.Writing.{written_from, written_length}
-use Rattle.ji.proofs.Readings.{front}
+use Rattle.ji.proofs.Writing.{written_from, written_length, written_take}
 use native.Mathlib.Omega.{arith}
 use Rattle.ji.proofs.nfc.place_composed.Goals as goal
 use Rattle.ji.proofs.nfc.place_composed.Goals.{After-compose-n}
@@ -21,4 +20,4 @@ slice_bounds-place-end c = let w = composed (goal.at.slice_bounds-place-end c).A
 
 pub returns : goal.returns
 returns c =
-    c.place.ensures ∙ ap (λ (s : List ℕ). placed 0 (encode s) c.args.out.now) (front (composed (goal.at.returns c).After-compose-n))
+    c.place.ensures ∙ ap (λ (s : List ℕ). placed 0 (encode s) c.args.out.now) (written_take (composed (goal.at.returns c).After-compose-n))

@@ -6,9 +6,9 @@ use Rattle.ucd.specs.Unicode16.{unicode16}
 use Rattle.ji.specs.Utf8.{encode}
 use Rattle.ji.specs.Nfc.{compose, nfc}
 use Rattle.ji.specs.Reply.{placed}
-use Rattle.ji.proofs.Writing.{written_length}
+use Rattle.ji.proofs.Writing.{written_length, written_take}
 use Rattle.ji.proofs.Replies.{text_refused, text_good}
-use Rattle.ji.proofs.Readings.{front, nfd_told}
+use Rattle.ji.proofs.Readings.{nfd_told}
 use native.Mathlib.Omega.{arith}
 use Rattle.ji.proofs.nfc.to_nfc.Goals as goal
 
@@ -29,5 +29,5 @@ returns c =
     let a = c.args in
     let h = nfd_told unicode16 _ _ _ c.in_ok-len.was c.read_nfd.ensures in
     c.place_composed.ensures
-    ∙ ap (λ (s : List ℕ). placed 0 (encode (compose unicode16 s)) a.out.now) (front h.2)
+    ∙ ap (λ (s : List ℕ). placed 0 (encode (compose unicode16 s)) a.out.now) (written_take h.2)
     ∙ text_good unicode16 (nfc unicode16) a.text.now a.out.now h.0 h.1
