@@ -5,7 +5,7 @@ use Rattle.ji.proofs.Replies.{text_refused, check_long}
 use native.Mathlib.Omega.{arith}
 use Rattle.ji.proofs.lomaji.keys.keys.Goals as goal
 
-pub returns : goal.returns
-returns c =
+pub returns-else-text-le256 : goal.returns-else-text-le256
+returns-else-text-le256 c =
     let a = c.args in
     text_refused unicode16 (keys unicode16 a.form a.kind) a.text.now a.out.now _ (check_long unicode16 a.text.now (omega (arith, c.if-text-le256.false)))

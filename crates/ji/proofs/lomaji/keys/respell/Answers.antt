@@ -2,7 +2,6 @@
 use mathlib.Core.Path.{◌≡◌, ◌∙◌}
 use mathlib.Core.List.{List, ◌++◌}
 use Prim.Native.Nat.{ℕ}
-use native.Mathlib.Nat.{sub-zero}
 use lib.ListN.{take, drop}
 use Rattle.ji.specs.Written.{Written}
 use Rattle.ji.specs.Lomaji.Keys.{plain_rules, rules_of, respell}
@@ -27,8 +26,5 @@ pub returns : goal.returns
 returns c =
     let below = c.respell_below in
     let nasal = c.respell_nasals-n in
-    let a = c.args in (
-      c.respell_o.ensures,
-      rw (sub-zero nasal.result)
-          (finished a.form a.s.now c.respell_o.new.s a.out.now nasal.new.out below.new.s nasal.result c.respell_o.ensures nasal.ensures (rw (sub-zero nasal.result) at below.ensures)),
-    )
+    let a = c.args in
+    (c.respell_o.ensures, finished a.form a.s.now c.respell_o.new.s a.out.now nasal.new.out below.new.s nasal.result c.respell_o.ensures nasal.ensures below.ensures)

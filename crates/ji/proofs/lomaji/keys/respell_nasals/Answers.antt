@@ -1,4 +1,4 @@
--- `lomaji::keys::respell_nasals` meets its contract. The loop's invariant: what the two passes make of the text up to i is written up to j.
+-- `lomaji::keys::respell_nasals` meets its contract. The loop's invariant: what the two passes make of the text so far is written up to n.
 use mathlib.Core.Path.{◌≡◌, ap, ◌∙◌}
 use mathlib.Core.List.{List, [], ◌∷◌, ◌++◌}
 use Prim.Native.Nat.{ℕ, ◌+◌, ◌≤◌, ◌<◌}
@@ -12,21 +12,21 @@ use Rattle.ji.proofs.text.Laws.{drop_next, points_first, points_second, points_o
 use Rattle.ji.proofs.lomaji.keys.Laws.{nasals_apart, nasals_end}
 use Rattle.ji.proofs.lomaji.keys.respell_nasals.Invariants.{nasals}
 use Rattle.ji.proofs.lomaji.keys.respell_nasals.Goals as goal
-use Rattle.ji.proofs.lomaji.keys.respell_nasals.Goals.{In-loop-i}
+use Rattle.ji.proofs.lomaji.keys.respell_nasals.Goals.{In-loop-c, in-8319, in-7482, in_default}
 
 -- a turn of the loop, at the code point x
-module _ (c : In-loop-i) where
+module _ (c : In-loop-c) where
   abbrev src : List ℕ
   src = c.args.src.now
 
   abbrev out : List ℕ
-  out = c.loop-i.out
+  out = c.loop-c.out
 
   abbrev i : ℕ
-  i = c.loop-i.i
+  i = c.loop-c.c-index
 
   abbrev j : ℕ
-  j = c.loop-i.j
+  j = c.loop-c.n
 
   abbrev x : ℕ
   x = get_or src i 0
@@ -35,7 +35,7 @@ module _ (c : In-loop-i) where
   Goes out i j = Underway nasals src c.args.out.now out i j
 
   h : Goes out i j
-  h = c.loop-i.invariant
+  h = c.loop-c.invariant
 
   out_length : length out ≡ length c.args.out.now
   out_length = written_length h.written
@@ -45,7 +45,7 @@ module _ (c : In-loop-i) where
 
   -- what x becomes
   piece : (u : List ℕ) → ((s : List ℕ) → nasals (x ∷ s) ≡ u ++ nasals s) → Piece u
-  piece u e = ap nasals (drop_next src i c.loop-i-test.true) ∙ e (drop (i + 1) src)
+  piece u e = ap nasals (drop_next src i c.loop-c-test.true) ∙ e (drop (i + 1) src)
 
   small_piece : x ≡ point "ⁿ" → Piece (points "nn")
   small_piece e = piece (points "nn") (λ s. points_first (point "ⁿ") (points "nn") (point "ᴺ") (points "NN") nasals_apart x s e)
@@ -68,42 +68,31 @@ module _ (c : In-loop-i) where
   one : Piece (x ∷ []) → Goes (set out j x) (i + 1) (j + 1)
   one e = underway_one h (i + 1) x e (omega arith) (rw out_length at (one_room e))
 
-pub loop-i-init : goal.loop-i-init
-loop-i-init c = let a = c.args in underway_start nasals a.src.now a.out.now
+pub loop-c-init : goal.loop-c-init
+loop-c-init c = let a = c.args in underway_start nasals a.src.now a.out.now
 
-pub put-j-requires : goal.put-j-requires
-put-j-requires c =
-    room (goal.at.put-j-requires c).In-loop-i (points "nn") (small_piece (goal.at.put-j-requires c).In-loop-i c.if-c-eq8319.true)
+pub put-n-requires : goal.put-n-requires
+put-n-requires c = room (goal.at.put-n-requires c).In-loop-c (points "nn") (small_piece (goal.at.put-n-requires c).In-loop-c c.in-8319.is)
 
-pub loop-i-preserved-then-c-eq8319 : goal.loop-i-preserved-then-c-eq8319
-loop-i-preserved-then-c-eq8319 c =
-    let put = c.put-j in
-    ran (goal.at.loop-i-preserved-then-c-eq8319 c).In-loop-i (points "nn") (small_piece (goal.at.loop-i-preserved-then-c-eq8319 c).In-loop-i c.if-c-eq8319.true) put.result put.new.out put.ensures.0 put.ensures.1
+pub put-n-requires-in-7482 : goal.put-n-requires-in-7482
+put-n-requires-in-7482 c =
+    room (goal.at.put-n-requires-in-7482 c).In-loop-c (points "NN") (capital_piece (goal.at.put-n-requires-in-7482 c).In-loop-c (λ e. omega arith) c.in-7482.is)
 
-pub put-j-requires-then-c-eq7482 : goal.put-j-requires-then-c-eq7482
-put-j-requires-then-c-eq7482 c =
-    room (goal.at.put-j-requires-then-c-eq7482 c).In-loop-i (points "NN") (capital_piece (goal.at.put-j-requires-then-c-eq7482 c).In-loop-i c.if-c-eq8319.false c.if-c-eq7482.true)
+pub bounds-out-n : goal.bounds-out-n
+bounds-out-n c = one_room (goal.at.bounds-out-n c).In-loop-c (other_piece (goal.at.bounds-out-n c).In-loop-c (λ e. omega arith) (λ e. omega arith))
 
-pub loop-i-preserved-then-c-eq7482 : goal.loop-i-preserved-then-c-eq7482
-loop-i-preserved-then-c-eq7482 c =
-    let put = c.put-j-then-c-eq7482 in
-    ran (goal.at.loop-i-preserved-then-c-eq7482 c).In-loop-i (points "NN") (capital_piece (goal.at.loop-i-preserved-then-c-eq7482 c).In-loop-i c.if-c-eq8319.false c.if-c-eq7482.true) put.result put.new.out put.ensures.0 put.ensures.1
-
-pub offset_bounds-out-j : goal.offset_bounds-out-j
-offset_bounds-out-j c = omega (arith, one_room (goal.at.offset_bounds-out-j c).In-loop-i (other_piece (goal.at.offset_bounds-out-j c).In-loop-i c.if-c-eq8319.false c.if-c-eq7482.false))
-
-pub bounds-out-j : goal.bounds-out-j
-bounds-out-j c = one_room (goal.at.bounds-out-j c).In-loop-i (other_piece (goal.at.bounds-out-j c).In-loop-i c.if-c-eq8319.false c.if-c-eq7482.false)
-
-pub overflow_add-j : goal.overflow_add-j
-overflow_add-j c = omega (arith, one_room (goal.at.overflow_add-j c).In-loop-i (other_piece (goal.at.overflow_add-j c).In-loop-i c.if-c-eq8319.false c.if-c-eq7482.false))
-
-pub loop-i-preserved : goal.loop-i-preserved
-loop-i-preserved c = one (goal.at.loop-i-preserved c).In-loop-i (other_piece (goal.at.loop-i-preserved c).In-loop-i c.if-c-eq8319.false c.if-c-eq7482.false)
+pub loop-c-preserved : goal.loop-c-preserved
+loop-c-preserved c =
+    let l = (goal.at.loop-c-preserved c).In-loop-c in
+    elim c.match-c.branch [
+      | in-8319 w ↦ let put = w.put-n in rw (w.out-is, w.n-is) (ran l (points "nn") (small_piece l w.in-8319.is) put.result put.new.out put.ensures.0 put.ensures.1)
+      | in-7482 w ↦ let put = w.put-n-in-7482 in rw (w.out-is, w.n-is) (ran l (points "NN") (capital_piece l (λ e. omega arith) w.in-7482.is) put.result put.new.out put.ensures.0 put.ensures.1)
+      | in_default w ↦ rw (w.out-is, w.n-is) (one l (other_piece l (λ e. omega arith) (λ e. omega arith)))
+    ]
 
 pub returns : goal.returns
 returns c =
-    let l = c.loop-i in
+    let l = c.loop-c in
     let a = c.args in
-    let read : length a.src.now ≤ l.i = omega arith in
+    let read : length a.src.now ≤ l.c-index = omega arith in
     underway_end l.invariant (ap nasals (drop_of_length-le a.src.now read) ∙ nasals_end)
