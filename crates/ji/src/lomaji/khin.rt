@@ -1,5 +1,5 @@
 // The neutral-tone mark.
-ghost use Rattle.std.specs.Prelude.{◌≡◌, ◌||◌, [], ◌∷◌};
+ghost use Rattle.std.specs.Prelude.{◌≡◌, ◌||◌};
 ghost use Rattle.ji.specs.Text.{begins};
 ghost use Rattle.ji.specs.Utf8.{bytes};
 ghost use Rattle.ji.specs.Lomaji.Khin.{after_khin, khin_of, khin_number};
@@ -20,27 +20,11 @@ impl Khin {
     }
 }
 
-// Whether `text` begins with the bytes `a` and `b`.
-fn begins_with(text: &[u8], a: u8, b: u8) -> bool
-    ensures { result ≡ begins (a ∷ b ∷ []) text.now }
-{
-    if text.len() < 2 {
-        return false;
-    }
-    if text[0] == a {
-        return text[1] == b;
-    }
-    false
-}
-
 // Whether `text` begins with two hyphens, or with U+00B7, which is two bytes as well.
 fn has_mark(text: &[u8]) -> bool
     ensures { result ≡ (begins (bytes "--") text.now || begins (bytes "·") text.now) }
 {
-    if begins_with(text, b'-', b'-') {
-        return true;
-    }
-    begins_with(text, 0xC2, 0xB7)
+    text.starts_with(b"--") || text.starts_with(b"\xC2\xB7")
 }
 
 // The part of `text` behind its mark, and the whole of it where it has none. One mark is removed, though another may follow.

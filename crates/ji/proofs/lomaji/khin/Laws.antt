@@ -1,38 +1,18 @@
 -- The neutral-tone mark: both marks have two bytes, and a text without its mark is no longer than the text.
 use mathlib.Core.Path.{◌≡◌, refl, sym, ap, ◌∙◌}
-use mathlib.Core.Bool.{Bool, true, false, ◌&&◌, ◌||◌}
+use mathlib.Core.Bool.{Bool, true, false, ◌||◌}
 use mathlib.Core.List.{List, [], ◌∷◌}
-use Prim.Native.Nat.{ℕ, ◌-◌, ◌≤◌, ◌<◌}
+use Prim.Native.Nat.{ℕ, ◌-◌, ◌≤◌}
 use native.Mathlib.Omega.{arith}
-use lib.Dec.{eqb}
-use lib.ListN.{length, take, drop, get_or, length-drop}
+use lib.ListN.{length, take, drop, length-drop}
 use lib.Seq.{take_all}
 use Rattle.ji.specs.Text.{points, begins}
 use Rattle.ji.specs.Utf8.{bytes_of, encode, bytes}
 use Rattle.ji.specs.Lomaji.Khin.{pick_khin, after_mark, after_khin, khin_of, without_khin, khin_in}
 use Rattle.ji.specs.declared.lomaji.khin.Khin.TheVariants.{No, Yes}
+use Rattle.ji.proofs.text.Laws.{begins_length}
 use Rattle.ji.proofs.utf8.OneToOne.{begins_bytes, drop_bytes}
-use Rattle.ji.proofs.Bools.{false_true, either, and_true, and_false, and_right, or_yes, or_no, text_yes, text_no}
-
--- ── a text that begins with two bytes
-pub begins_short : (a b : ℕ) (s : List ℕ) → length s < 2 → begins (a ∷ b ∷ []) s ≡ false
-unfolding begins
-begins_short a b [] h = refl
-begins_short a b (x ∷ []) h = and_false (eqb x a)
-begins_short a b (x ∷ y ∷ s) h = let no_way : ⊥ = omega arith in absurd no_way
-
-pub begins_two : (a b : ℕ) (s : List ℕ) → 2 ≤ length s → begins (a ∷ b ∷ []) s ≡ (eqb (get_or s 0 0) a && eqb (get_or s 1 0) b)
-unfolding begins
-begins_two a b [] h = let no_way : ⊥ = omega arith in absurd no_way
-begins_two a b (x ∷ []) h = let no_way : ⊥ = omega arith in absurd no_way
-begins_two a b (x ∷ y ∷ s) h = ap (λ (t : Bool). eqb x a && t) (and_true (eqb y b))
-
--- a text is as long as what it begins with
-pub begins_fits : (p s : List ℕ) → begins p s ≡ true → length p ≤ length s
-unfolding begins
-begins_fits [] s e = omega arith
-begins_fits (a ∷ p) [] e = absurd (false_true e)
-begins_fits (a ∷ p) (x ∷ s) e = let rest = begins_fits p s (and_right (eqb x a) (begins p s) e) in omega arith
+use Rattle.ji.proofs.Bools.{false_true, either, or_yes, or_no, text_yes, text_no}
 
 -- ── the two marks
 -- the text has one of them
@@ -45,7 +25,7 @@ marked_is s = refl
 
 pub marked_fits : (s : List ℕ) → marked s ≡ true → 2 ≤ length s
 unfolding encode bytes_of
-marked_fits s e = either (begins (bytes "--") s) (λ h. begins_fits (bytes "--") s h) (λ h. begins_fits (bytes "·") s (sym (or_no _ _ h) ∙ e))
+marked_fits s e = either (begins (bytes "--") s) (λ h. begins_length (bytes "--") s h) (λ h. begins_length (bytes "·") s (sym (or_no _ _ h) ∙ e))
 
 pub after_mark_law : (s : List ℕ) → marked s ≡ true → after_khin s ≡ drop 2 s
 unfolding after_khin encode bytes_of

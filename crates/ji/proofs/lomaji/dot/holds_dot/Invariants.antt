@@ -1,12 +1,9 @@
 -- `lomaji::dot::holds_dot` meets its contract. The loop's invariant: what is left of the part decides.
 use mathlib.Core.Path.{◌≡◌}
-use Prim.Native.Nat.{◌-◌, ◌<◌}
-use lib.ListN.{length, drop}
+use Prim.Native.Nat.{◌-◌}
+use lib.ListN.{drop}
 use Rattle.ji.specs.Lomaji.Dot.{dot_in}
 use Rattle.ji.proofs.lomaji.dot.holds_dot.Given as goal
 
 abbrev pub invariant-loop-i : goal.invariant-loop-i
-invariant-loop-i l = (0 < l.i) × (dot_in l.text ≡ dot_in (drop (l.i - 1) l.text))
-
-abbrev pub decreases-loop-i : goal.decreases-loop-i
-decreases-loop-i l = length l.text - l.i
+invariant-loop-i l = dot_in l.text ≡ dot_in (drop (l.i - 1) l.text)
