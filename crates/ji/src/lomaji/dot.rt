@@ -6,10 +6,5 @@ ghost use Rattle.ji.specs.Lomaji.Dot.{dot_in};
 pub fn holds_dot(text: &[u8]) -> bool
     ensures { result ≡ dot_in text.now }
 {
-    for i in 1..text.len() {
-        if text[i - 1] == 0xCD && text[i] == 0x98 {
-            return true;
-        }
-    }
-    false
+    text.windows(2).any(|pair| pair == b"\xCD\x98".as_slice())
 }

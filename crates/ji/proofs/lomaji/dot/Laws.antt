@@ -1,15 +1,14 @@
 -- The bytes of U+0358 in a text.
-use mathlib.Core.Path.{◌≡◌, sym, ap, ◌∙◌}
-use mathlib.Core.Bool.{Bool, false, ◌&&◌, ◌||◌}
+use mathlib.Core.Path.{◌≡◌, refl, sym, ap, ◌∙◌}
+use mathlib.Core.Bool.{Bool, true, false, ◌&&◌, ◌||◌}
 use mathlib.Core.List.{List, [], ◌∷◌, ◌++◌}
-use Prim.Native.Nat.{ℕ, suc, ◌+◌, ◌-◌, ◌/◌, ◌%◌, ◌≤◌, ◌<◌}
-use native.Mathlib.Nat.{add-zero}
+use Prim.Native.Nat.{ℕ, zero, suc, ◌+◌, ◌/◌, ◌%◌, ◌≤◌, ◌<◌}
+use native.Mathlib.Numerals.{add-one}
 use native.Mathlib.Decide.{dec_le, ℕ_discrete}
 use native.Mathlib.Omega.{arith}
 use borrow.Author.Tests.{eq-eqb, ne_eqb, eqb-true, eqb-false}
 use lib.Dec.{eqb}
-use lib.ListN.{length, drop, get_or, drop_of_length-le}
-use lib.Seq.{drop-cons, get_or-drop}
+use lib.ListN.{length, get_or}
 use Rattle.ucd.specs.Table.{listed}
 use Rattle.ji.specs.Utf8.{bytes_of, encode}
 use Rattle.ji.specs.Lomaji.Dot.{dot_in}
@@ -58,28 +57,34 @@ module _ (x : ℕ) (s : List ℕ) where
   dot_here : DotHere
   dot_here = by_size (dec_le x 0x7F) (dec_le x 0x7FF) (dec_le x 0xFFFF)
 
--- one byte at a time
-module _ (s : List ℕ) (i : ℕ) (some : 0 < i) where
-  from_before : i - 1 < length s → drop (i - 1) s ≡ get_or s (i - 1) 0 ∷ drop i s
-  from_before h =
-      let z : suc (i - 1) ≡ i = omega arith in
-      drop-cons s (i - 1) 0 h ∙ ap (λ (m : ℕ). get_or s (i - 1) 0 ∷ drop m s) z
+-- ── the two bytes beside each other
+dot_found : (s : List ℕ) (k : ℕ) → suc k < length s → get_or s k 0 ≡ 0xCD → get_or s (suc k) 0 ≡ 0x98 → dot_in s ≡ true
+unfolding dot_in
+dot_found [] k h e f = absurd (omega arith)
+dot_found (b ∷ s) zero h e f = or_yes _ _ (and_yes _ _ (eq-eqb b 0xCD e) ∙ eq-eqb (get_or s 0 0) 0x98 f)
+dot_found (b ∷ s) (suc k) h e f =
+    let here : Bool = eqb b 0xCD && eqb (get_or s 0 0) 0x98 in
+    either here (λ y. or_yes here (dot_in s) y) (λ n. or_no here (dot_in s) n ∙ dot_found s k (omega arith) e f)
 
-  pub dot_at : i < length s → dot_in (drop (i - 1) s) ≡ ((eqb (get_or s (i - 1) 0) 0xCD && eqb (get_or s i 0) 0x98) || dot_in (drop i s))
-  unfolding dot_in
-  dot_at h =
-      ap dot_in (from_before (omega arith))
-      ∙ ap (λ (x : ℕ). (eqb (get_or s (i - 1) 0) 0xCD && eqb x 0x98) || dot_in (drop i s)) (get_or-drop i s 0 0 ∙ ap (λ (m : ℕ). get_or s m 0) (add-zero i))
+dot_missing : (s : List ℕ) → ((k : ℕ) → suc k < length s → get_or s k 0 ≡ 0xCD → get_or s (suc k) 0 ≡ 0x98 → ⊥) → dot_in s ≡ false
+unfolding dot_in
+dot_missing [] n = refl
+dot_missing (b ∷ []) n = or_no _ _ (and_false (eqb b 0xCD))
+dot_missing (b ∷ x ∷ s) n =
+    let apart : (eqb b 0xCD && eqb x 0x98) ≡ false =
+    either (eqb b 0xCD) (λ e. and_yes _ _ e ∙ ne_eqb x 0x98 (λ f. n 0 (omega arith) (eqb-true b 0xCD e) f)) (λ e. and_no _ _ e) in
+    or_no (eqb b 0xCD && eqb x 0x98) (dot_in (x ∷ s)) apart ∙ dot_missing (x ∷ s) (λ k h. n (suc k) (omega arith))
 
-  pub dot_over : length s ≤ i → dot_in (drop (i - 1) s) ≡ false
-  unfolding dot_in
-  dot_over h = by_last (dec_le (length s) (i - 1))
-    where
-      by_last : Dec (length s ≤ i - 1) → dot_in (drop (i - 1) s) ≡ false
-      by_last (yes k) = ap dot_in (drop_of_length-le s k)
-      by_last (no k) =
-          ap dot_in (from_before (omega arith) ∙ ap (λ (l : List ℕ). get_or s (i - 1) 0 ∷ l) (drop_of_length-le s h))
-          ∙ or_no _ _ (and_false (eqb (get_or s (i - 1) 0) 0xCD))
+-- a test that says whether they are there
+pub dot_told : (s : List ℕ) (r : Bool)
+    → (r ≡ true → (k : ℕ) × ((k + 2 ≤ length s) × (get_or s k 0 ≡ 0xCD) × (get_or s (k + 1) 0 ≡ 0x98)))
+    → (r ≡ false → (k : ℕ) → k + 2 ≤ length s → get_or s k 0 ≡ 0xCD → get_or s (k + 1) 0 ≡ 0x98 → ⊥)
+    → r ≡ dot_in s
+dot_told s true found missing =
+    let h = found refl in
+    sym (dot_found s h.0 (omega (arith, h.1.0)) h.1.1 (rw add-one at h.1.2))
+dot_told s false found missing =
+    sym (dot_missing s (λ k h e f. missing refl k (omega arith) e (rw add-one f)))
 
 pub dot_listed : (w : List ℕ) → dot_in (encode w) ≡ listed w 0x0358
 unfolding dot_in
