@@ -5,7 +5,7 @@ use mathlib.Core.List.{List, [], ◌∷◌, ◌++◌, append_assoc, append-nil}
 use Prim.Native.Nat.{ℕ, suc, ◌+◌, ◌-◌, ◌<◌, ◌≤◌}
 use native.Mathlib.Numerals.{add-one, one-add}
 use native.Mathlib.Omega.{arith}
-use lib.ListN.{length, take, drop, get_or, drop_of_length-le, get_or-append}
+use lib.ListN.{length, take, drop, get_or, get_or-append}
 use lib.Seq.{drop-cons, drop_at, length-take-le, get_or-take, take-append-le, take-take, take-length, drop-length}
 use Rattle.std.specs.Prelude.{cond, ltb}
 use Rattle.std.specs.List.{prefix_len}
@@ -20,15 +20,6 @@ module _ (t : Table) where
   abbrev After : ℕ → List ℕ → Type 0
   After k [] = Unit {0}
   After k (c ∷ s) = ((0 < combining_class t c) × (combining_class t c < k) → ⊥) × Ordered t (c ∷ s)
-
-  -- that says the same of the class as `Ordered` of the code point
-  after_ordered : (c : ℕ) (s : List ℕ) → After (combining_class t c) s → Ordered t (c ∷ s)
-  after_ordered c [] h = (tt, tt)
-  after_ordered c (d ∷ s) h = h
-
-  ordered_after : (c : ℕ) (s : List ℕ) → Ordered t (c ∷ s) → After (combining_class t c) s
-  ordered_after c [] h = tt
-  ordered_after c (d ∷ s) h = h
 
   -- the search for a reorderable pair, at place i behind a code point of class k
   pub record Checking (s : List ℕ) (k i : ℕ) : Type 0 where
@@ -46,24 +37,6 @@ module _ (t : Table) where
       needed : (s : List ℕ) → Ordered t s → After 0 s
       needed [] h = tt
       needed (c ∷ s) h = ((λ k. omega arith), h)
-
-  module _ {s : List ℕ} {k i : ℕ} (p : Checking s k i) (h : i < length s) (class : ℕ) (e : class ≡ combining_class t (get_or s i 0)) where
-    pub checking_more : (0 < class → class < k → ⊥) → Checking s class (i + 1)
-    checking_more n =
-        record {
-          within = omega arith;
-          enough = λ a. p.enough (rw front ((λ r. n (omega arith) (omega arith)), after_ordered (get_or s i 0) (drop (i + 1) s) (rw e at a)));
-          needed = λ o. rw e (ordered_after (get_or s i 0) (drop (i + 1) s) (rw front at (p.needed o)).1);
-        }
-      where
-        front : drop i s ≡ get_or s i 0 ∷ drop (i + 1) s
-        front = rw (add-one i) (drop-cons s i 0 h)
-
-    pub checking_pair : 0 < class → class < k → Ordered t s → ⊥
-    checking_pair low high o = (rw (drop-cons s i 0 h) at (p.needed o)).0 (omega arith)
-
-  pub checking_end : {s : List ℕ} {k i : ℕ} → Checking s k i → length s ≤ i → Ordered t s
-  checking_end {s} p h = p.enough (rw (drop_of_length-le s h) tt)
 
   -- the insertion of a, of class k: it goes behind the code points that it is exchanged with
   abbrev pub passed : ℕ → List ℕ → ℕ
