@@ -89,7 +89,8 @@ fn place_in<const N: usize>(s: &[u16], a: u16, b: u16, out: &mut [u8]) -> Result
     reply::place(&work[..n], out)
 }
 
-// NFC of the code points `s`, with each `a` `b` in it exchanged, in `out`. Short texts are normalised in a small buffer, since clearing it is quicker.
+// NFC of the code points `s`, with each `a` `b` in it exchanged, in `out`. Short texts are normalised in a small buffer,
+// since clearing it is quicker.
 pub fn place_exchanged(s: &[u16], a: u16, b: u16, out: &mut [u8]) -> Result<ByteLen, Refusal>
     ensures { text_reply result out.new ≡ exchanged_call unicode16 a b s.now out.old }
 {

@@ -65,8 +65,8 @@ fn copy_few(s: &[u8], out: &mut [u8])
     out[last] = s[last];
 }
 
-// Copies the bytes `s` to the front of `out`. Most texts have at most eight, for which a call of memcpy costs more than the stores (docs/SPEED.md): the first
-// four and the last four, though these may share some.
+// Copies the bytes `s` to the front of `out`. Most texts have at most eight, for which a call of memcpy costs more than
+// the stores (docs/SPEED.md): the first four and the last four, though these may share some.
 pub(crate) fn copy(s: &[u8], out: &mut [u8])
     requires { length s.now ≤ length out.old }
     ensures { Written out.old out.new (length s.now) s.now }
@@ -110,7 +110,7 @@ pub fn place_between(
         return Err(Refusal::NoRoom);
     }
     copy(before, out);
-    let at = utf8::put_point(x as u32, out, before.len());
+    let at = utf8::put_point(u32::from(x), out, before.len());
     copy(after, &mut out[at..]);
     Ok(ByteLen(at + after.len()))
 }

@@ -49,8 +49,9 @@ pub(crate) fn put(src: &[u16], out: &mut [u16], at: usize) -> usize
     end
 }
 
-// Writes `src`, with each occurrence of `pattern` replaced by `by`, to the front of `out`, and returns its length. An occurrence takes the loop as far as
-// the pattern is long, which is the step of no range: here, in `fits` and in `replace_same`.
+// Writes `src`, with each occurrence of `pattern` replaced by `by`, to the front of `out`, and returns its length.
+// An occurrence takes the loop as far as the pattern is long, which is the step of no range: here, in `fits` and in
+// `replace_same`.
 pub(crate) fn replace(src: &[u16], pattern: &[u16], by: &[u16], out: &mut [u16]) -> usize
     requires { (0 < length pattern.now) × (length (replace_all pattern.now by.now src.now) ≤ length out.old) }
     ensures { Written out.old out.new result (replace_all pattern.now by.now src.now) }

@@ -32,7 +32,8 @@ pub enum Kind {
 
 // The rules go in three parts, in their order. Letters by number: 4E N, 4F O, 65 e, 6E n, 6F o, 75 u.
 
-// The first two rules: o and O with U+0358. They keep the length, so they go in place. The forms differ in the second letter.
+// The first two rules: o and O with U+0358. They keep the length, so they go in place. The forms differ in the second
+// letter.
 fn respell_o(form: Form, s: &mut [u16])
     ensures { s.new ≡ respell (take 2 (rules_of form)) s.old }
 {
@@ -108,7 +109,8 @@ fn put_key(key: Option<u8>, out: &mut [u16], at: usize) -> usize
     }
 }
 
-// Writes the keys of a stripped text, whose bytes `stripped` are, with the key of its tone, to `out`. Its code points and its letters each have a buffer.
+// Writes the keys of a stripped text, whose bytes `stripped` are, with the key of its tone, to `out`. Its code points and
+// its letters each have a buffer.
 fn place_respelled<const POINTS: usize, const LETTERS: usize>(
     form: Form,
     key: Option<u8>,
@@ -147,8 +149,8 @@ fn place_toned(
     reply::place_bytes(&bytes[..end], out)
 }
 
-// Strips the text, and writes its keys, in buffers of these sizes. A stripped text has at most five bytes for each two of the text, and the key takes one
-// more. A stripped text of ASCII letters is respelled by no rule.
+// Strips the text, and writes its keys, in buffers of these sizes. A stripped text has at most five bytes for each two of
+// the text, and the key takes one more. A stripped text of ASCII letters is respelled by no rule.
 fn keys_with<const BYTES: usize, const POINTS: usize, const LETTERS: usize>(
     text: &[u8],
     form: Form,
@@ -171,8 +173,8 @@ fn keys_with<const BYTES: usize, const POINTS: usize, const LETTERS: usize>(
     place_respelled::<POINTS, LETTERS>(form, key, &bytes[..n], out)
 }
 
-// `poj_syl_to_key_sequences` and its `_oo` form: the keys of the syllable `text`, in `out`. A syllable has at most 8 bytes: clearing small buffers is
-// quicker.
+// `poj_syl_to_key_sequences` and its `_oo` form: the keys of the syllable `text`, in `out`. Most syllables have at most 8
+// bytes, and clearing small buffers is quicker.
 pub fn keys(text: &[u8], form: Form, kind: Kind, out: &mut [u8]) -> Result<ByteLen, Refusal>
     ensures { text_reply result out.new ≡ text_call unicode16 (keys unicode16 form kind) text.now out.old }
 {

@@ -36,5 +36,5 @@ pub returns : goal.returns
 returns c =
     let a = c.args in
     let room : length a.before.now + length (bytes_of a.x) ≤ length a.out.now = omega (arith, c.byte_count-size.ensures.0, c.if-left-size.false, c.if-out-before.false) in
-    let w : Written a.out.now c.put_point-at.new.out c.put_point-at.result (a.before.now ++ bytes_of a.x) = rw (c.put_point-at.ensures.0, c.put_point-at.ensures.1) (written_run c.copy.ensures (bytes_of a.x) room) in
+    let w : Written a.out.now c.put_point-at.new.out c.put_point-at.result (a.before.now ++ bytes_of a.x) = rw (c.put_point-at.ensures.0, c.put_point-at.ensures.1, c.from.ensures) (written_run c.copy.ensures (bytes_of a.x) room) in
     placed_written 0 (text (goal.at.returns c).After-byte_count-size) a.out.now _ _ (rw (← append_assoc a.before.now (bytes_of a.x) a.after.now) (written_behind w c.copy-2.ensures))
