@@ -66,7 +66,7 @@ fn copy_few(s: &[u8], out: &mut [u8])
 }
 
 // Copies the bytes `s` to the front of `out`. Most texts have at most eight, for which a call of memcpy costs more than
-// the stores (docs/SPEED.md): the first four and the last four, though these may share some.
+// the stores: the first four and the last four, though these may share some.
 pub(crate) fn copy(s: &[u8], out: &mut [u8])
     requires { length s.now ≤ length out.old }
     ensures { Written out.old out.new (length s.now) s.now }
