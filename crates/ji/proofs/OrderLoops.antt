@@ -101,6 +101,3 @@ module _ (t : Table) where
           size = l ∙ p.size;
           text = e ∙ rw (add-one (i - 1)) (order_more s₀ s (i - 1) (omega (arith, p.within)) text);
         }
-
-    pub sorting_end : i ≤ 0 → s ≡ order t s₀
-    sorting_end h = let z : i ≡ 0 = omega arith in subst (λ (n : ℕ). s ≡ take n s₀ ++ order t (drop n s₀)) z p.text

@@ -33,9 +33,6 @@ module _ {before after : List ℕ} {n : ℕ} {s : List ℕ} (h : Written before 
   pub written_take : take n after ≡ s
   written_take = ap (take n) h.is ∙ take_at s (drop n before) n sized
 
-  pub written_part : n ≡ length (take n after)
-  written_part = sym (ap length written_take ∙ sized)
-
   -- and behind it the buffer is as it was
   pub written_drop : drop n after ≡ drop n before
   written_drop = ap (drop n) h.is ∙ drop_at s (drop n before) n sized

@@ -6,17 +6,13 @@ use Rattle.ji.specs.Written.{Written}
 use Rattle.ji.specs.Utf8.{encode}
 use Rattle.ji.specs.Nfc.{compose}
 use Rattle.ji.specs.Reply.{placed}
-use Rattle.ji.proofs.Writing.{written_from, written_length, written_take}
-use native.Mathlib.Omega.{arith}
+use Rattle.ji.proofs.Writing.{written_from, written_take}
 use Rattle.ji.proofs.nfc.place_composed.Goals as goal
 use Rattle.ji.proofs.nfc.place_composed.Goals.{After-compose-n}
 
 -- what composing leaves in the buffer
 composed : (c : After-compose-n) → Written c.args.s.now c.compose-n.new.s c.compose-n.result (compose unicode16 c.args.s.now)
 composed c = written_from _ _ _ _ c.compose-n.ensures.0 c.compose-n.ensures.1 c.compose-n.auto.s
-
-pub slice_bounds-place-end : goal.slice_bounds-place-end
-slice_bounds-place-end c = let w = composed (goal.at.slice_bounds-place-end c).After-compose-n in omega (arith, w.fits, written_length w)
 
 pub returns : goal.returns
 returns c =

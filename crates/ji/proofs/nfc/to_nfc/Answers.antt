@@ -6,16 +6,10 @@ use Rattle.ucd.specs.Unicode16.{unicode16}
 use Rattle.ji.specs.Utf8.{encode}
 use Rattle.ji.specs.Nfc.{compose, nfc}
 use Rattle.ji.specs.Reply.{placed}
-use Rattle.ji.proofs.Writing.{written_length, written_take}
+use Rattle.ji.proofs.Writing.{written_take}
 use Rattle.ji.proofs.Replies.{text_refused, text_good}
 use Rattle.ji.proofs.Readings.{nfd_told}
-use native.Mathlib.Omega.{arith}
 use Rattle.ji.proofs.nfc.to_nfc.Goals as goal
-
-pub slice_bounds-points-end : goal.slice_bounds-points-end
-slice_bounds-points-end c =
-    let w = (nfd_told unicode16 _ _ _ c.in_ok-len.was c.read_nfd.ensures).2 in
-    omega (arith, w.fits, written_length w)
 
 pub returns-in_err-len : goal.returns-in_err-len
 returns-in_err-len c =

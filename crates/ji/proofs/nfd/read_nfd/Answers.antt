@@ -2,18 +2,12 @@ use Rattle.std.proofs.lemmas.Result.{err_from_is_err_and}
 use Rattle.ji.proofs.unicode.Reader.{accepted_room}
 use mathlib.Core.Bool.{true}
 use Rattle.ucd.specs.Unicode16.{unicode16}
-use Rattle.ji.proofs.Writing.{written_length}
 use Rattle.ji.proofs.Readings.{told, nfd_long, nfd_refused, nfd_ordered}
 use native.Mathlib.Omega.{arith}
 use Rattle.ji.proofs.nfd.read_nfd.Goals as goal
 
 pub returns-then-text-gt256 : goal.returns-then-text-gt256
 returns-then-text-gt256 c = let a = c.args in nfd_long unicode16 a.text.now a.points.now a.points.now c.if-text-gt256.true
-
-pub slice_bounds-order-end : goal.slice_bounds-order-end
-slice_bounds-order-end c =
-    let w = (told unicode16 _ _ _ true c.in_ok-len.was c.decode.ensures).2 in
-    omega (arith, w.fits, written_length w)
 
 pub returns-in_err-len : goal.returns-in_err-len
 returns-in_err-len c =

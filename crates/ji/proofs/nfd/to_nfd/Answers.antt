@@ -6,13 +6,10 @@ use Rattle.ucd.specs.Unicode16.{unicode16}
 use Rattle.ji.specs.Utf8.{encode}
 use Rattle.ji.specs.Nfd.{nfd}
 use Rattle.ji.specs.Reply.{placed}
-use Rattle.ji.proofs.Writing.{written_part, written_take}
+use Rattle.ji.proofs.Writing.{written_take}
 use Rattle.ji.proofs.Replies.{text_refused, text_good}
 use Rattle.ji.proofs.Readings.{nfd_told}
 use Rattle.ji.proofs.nfd.to_nfd.Goals as goal
-
-pub slice_bounds-place-end : goal.slice_bounds-place-end
-slice_bounds-place-end c = written_part (nfd_told unicode16 _ _ _ c.in_ok-len.was c.read_nfd.ensures).2
 
 pub returns-in_err-len : goal.returns-in_err-len
 returns-in_err-len c =

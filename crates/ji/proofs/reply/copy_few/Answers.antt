@@ -37,20 +37,5 @@ module _ (s out : List ℕ) (some : 0 < length s) (few : length s < 4) (fits : l
       let end : last + 1 ≡ length s = omega arith in
       covers_all fits (subst (λ (to : ℕ). Covers s out (set two last (get_or s last 0)) 0 to) end all)
 
-pub returns-then-is_empty : goal.returns-then-is_empty
-returns-then-is_empty c = none c.args.s.now c.args.out.now (grind arith)
-
-pub bounds-out-middle : goal.bounds-out-middle
-bounds-out-middle c =
-    let some : 0 < length c.args.s.now = grind arith in
-    let f = one_fits c.args.s.now c.args.out.now some c.requires.0 c.requires.1 in
-    omega arith
-
-pub bounds-out-last : goal.bounds-out-last
-bounds-out-last c =
-    let some : 0 < length c.args.s.now = grind arith in
-    let f = two_fits c.args.s.now c.args.out.now some c.requires.0 c.requires.1 in
-    omega arith
-
 pub returns : goal.returns
 returns c = covered c.args.s.now c.args.out.now (grind arith) c.requires.0 c.requires.1

@@ -36,14 +36,5 @@ module _ (s out : List ℕ) (at : ℕ) (h : at + 4 ≤ length s) (fits : length 
       let end : at + 3 + 1 ≡ at + 4 = omega arith in
       subst (λ (to : ℕ). Covers s out four at to) end (covers_next first last (omega arith))
 
-pub bounds-out-at-2 : goal.bounds-out-at-2
-bounds-out-at-2 c = let f = one_fits c.args.s.now c.args.out.now c.args.at c.requires.0 c.requires.1 in let h = c.requires.0 in omega (arith, f, h)
-
-pub bounds-out-at-3 : goal.bounds-out-at-3
-bounds-out-at-3 c = let f = two_fits c.args.s.now c.args.out.now c.args.at c.requires.0 c.requires.1 in let h = c.requires.0 in omega (arith, f, h)
-
-pub bounds-out-at-4 : goal.bounds-out-at-4
-bounds-out-at-4 c = let f = three_fits c.args.s.now c.args.out.now c.args.at c.requires.0 c.requires.1 in let h = c.requires.0 in omega (arith, f, h)
-
 pub returns : goal.returns
 returns c = covered c.args.s.now c.args.out.now c.args.at c.requires.0 c.requires.1

@@ -85,14 +85,8 @@ loop-i-preserved-then-begins_at c =
     let put = c.put-j in
     hit (goal.at.loop-i-preserved-then-begins_at c).In-loop-i (yes (goal.at.loop-i-preserved-then-begins_at c).Then-begins_at) put.result put.new.out put.ensures.0 put.ensures.1
 
-pub offset_bounds-out-j : goal.offset_bounds-out-j
-offset_bounds-out-j c = omega (arith, miss_room (goal.at.offset_bounds-out-j c).In-loop-i (no (goal.at.offset_bounds-out-j c).Else-begins_at))
-
 pub bounds-out-j : goal.bounds-out-j
 bounds-out-j c = miss_room (goal.at.bounds-out-j c).In-loop-i (no (goal.at.bounds-out-j c).Else-begins_at)
-
-pub overflow_add-j : goal.overflow_add-j
-overflow_add-j c = omega (arith, miss_room (goal.at.overflow_add-j c).In-loop-i (no (goal.at.overflow_add-j c).Else-begins_at))
 
 pub loop-i-preserved : goal.loop-i-preserved
 loop-i-preserved c = miss (goal.at.loop-i-preserved c).In-loop-i (no (goal.at.loop-i-preserved c).Else-begins_at)

@@ -66,17 +66,10 @@ loop-i-init c = let a = c.args in underway_start (replace_all a.pattern.now a.by
 pub put-i-requires : goal.put-i-requires
 put-i-requires c = rw (same_size (goal.at.put-i-requires c).In-loop-i) (hit_room (goal.at.put-i-requires c).In-loop-i (begins_as (goal.at.put-i-requires c).In-loop-i true (sym c.begins_at.ensures ∙ c.if-begins_at.true)))
 
-pub loop-i-smaller-then-begins_at : goal.loop-i-smaller-then-begins_at
-loop-i-smaller-then-begins_at c =
-    omega (arith, c.put-i.ensures.0, c.requires.0, c.requires.1, more (goal.at.loop-i-smaller-then-begins_at c).In-loop-i)
-
 pub loop-i-preserved-then-begins_at : goal.loop-i-preserved-then-begins_at
 loop-i-preserved-then-begins_at c =
     let put = c.put-i in
     hit (goal.at.loop-i-preserved-then-begins_at c).In-loop-i (begins_as (goal.at.loop-i-preserved-then-begins_at c).In-loop-i true (sym c.begins_at.ensures ∙ c.if-begins_at.true)) put.result put.new.out put.ensures.0 put.ensures.1
-
-pub loop-i-smaller : goal.loop-i-smaller
-loop-i-smaller c = omega (arith, more (goal.at.loop-i-smaller c).In-loop-i)
 
 pub loop-i-preserved : goal.loop-i-preserved
 loop-i-preserved c = miss (goal.at.loop-i-preserved c).In-loop-i (begins_as (goal.at.loop-i-preserved c).In-loop-i false (sym c.begins_at.ensures ∙ c.if-begins_at.false))

@@ -11,7 +11,7 @@ use Rattle.ji.specs.Reply.{good, check_points, placed}
 use Rattle.ji.specs.Lomaji.Keys.{rules_of, respell, key_text}
 use Rattle.ji.specs.declared.unicode.CharLen.{CharLen}
 use Rattle.ji.specs.declared.lomaji.keys.Form.{Form}
-use Rattle.ji.proofs.Writing.{written_length, written_run, written_take, written_part}
+use Rattle.ji.proofs.Writing.{written_length, written_run, written_take}
 use Rattle.ji.proofs.Readings.{told}
 use Rattle.ji.proofs.utf8.OneToOne.{fewer}
 use Rattle.ji.proofs.unicode.Laws.{spread_plain}
@@ -45,9 +45,6 @@ module _ (bytes before after : List ℕ) (len : CharLen) {answer : Result CharLe
 
     key_room : (key : Option ℕ) {letters letters' : List ℕ} {m : ℕ} → Written letters letters' m (respell (rules_of form) (take len.0 after)) → m + length (key_text key) ≤ room
     key_room key w = omega (arith, w.size, letters_few, key_length key)
-
-pub slice_bounds-respell-end : goal.slice_bounds-respell-end
-slice_bounds-respell-end g c = written_part (read c.args.stripped.now _ _ _ c.in_ok-len.was c.read_points.ensures)
 
 pub respell-n-requires : goal.respell-n-requires
 respell-n-requires g c =
