@@ -1,8 +1,8 @@
 -- What the code keeps of an entry (document 01, "khiin: entries"): the bytes of each part's forms in one buffer, and of each part's choices the
 -- place there and the length. "up to sixteen parts with four choices each .. for mixed-radix positions".
-use Rattle.std.specs.Prelude.{◌≡◌, Bool, true, false, ◌&&◌, List, [], ◌∷◌, ◌++◌, map, ◌⊎◌, ℕ, zero, suc, ◌+◌, ◌-◌, ◌*◌, ◌/◌, ◌%◌, ◌≤◌, ◌<◌, leb, ltb, eqb, length, take, drop, get_or}
+use Rattle.std.specs.Prelude.{◌≡◌, ◌≢◌, Bool, true, false, ◌&&◌, cond, Option as Found, Some, None, List, [], ◌∷◌, ◌++◌, map, ℕ, zero, suc, ◌+◌, ◌-◌, ◌*◌, ◌/◌, ◌%◌, ◌≤◌, ◌<◌, leb, ltb, eqb, length, take, drop, get_or}
 use Rattle.std.proofs.Math.Option.{Option, none, some}
-use Rattle.ji.specs.Unicode.{Table, unicode16, pick_number}
+use Rattle.ji.specs.Unicode.{Table, unicode16}
 use Rattle.ji.specs.Utf8.{decode, encode}
 use Rattle.ji.specs.Reply.{Reply, refused, pick_reply, good, check_within}
 use Rattle.ji.specs.Lomaji.Keys.{keys}
@@ -32,24 +32,19 @@ is_toned Detoned = false
 is_toned Numeric = true
 is_toned Telex = true
 
--- the first part
-unfoldable pub first_part : List ℕ → List ℕ
-first_part s = get_or (split s) 0 []
-
 -- no part has more than 256 bytes
 abbrev pub all_short : List (List ℕ) → Bool
 all_short [] = true
 all_short (w ∷ ws) = leb (length w) 256 && all_short ws
 
--- how many parts an entry has, and 0 where they are too many or one is too long
-unfoldable pub part_count : List ℕ → ℕ
-part_count s = pick_number (leb (length (split s)) 16 && all_short (split s)) (length (split s)) 0
+-- how many parts an entry has, if they are not too many and none is too long
+unfoldable pub part_count : List ℕ → Found ℕ
+part_count s = cond (leb (length (split s)) 16 && all_short (split s)) (Some (length (split s))) None
 
 -- an entry that was found good, and its parts not too many and not too long
 pub record Entry (entry : List ℕ) (parts : ℕ) : Type 0 where
   pub checked : check_within unicode16 1024 entry ≡ good (points_of entry)
-  pub count : parts ≡ part_count entry
-  pub some : 0 < parts
+  pub count : part_count entry ≡ Some parts
 
 -- the choices of a part, which is the only one or one of several
 abbrev pub chosen : Table → Bool → Kind → List ℕ → List (List ℕ)
@@ -77,22 +72,17 @@ choice_at forms offsets lengths j = take (get_or lengths j 0) (drop (get_or offs
 abbrev pub choices_at : List ℕ → List ℕ → List ℕ → ℕ → List (List ℕ)
 choices_at forms offsets lengths radix = up_to (choice_at forms offsets lengths) radix
 
--- one form or two, from `at` on, which end at `mid` and `end`, as they are; and each with and without its last byte, the key of the tone
-abbrev pub row_one : ℕ → ℕ → Row
-row_one at mid = record { offsets = at ∷ 0 ∷ 0 ∷ 0 ∷ []; lengths = (mid - at) ∷ 0 ∷ 0 ∷ 0 ∷ []; radix = 1; end = mid }
+-- one form or two, from `at` on, which end at `mid` and `end`, as they are and, if they are toned, without their last byte, the key of the tone
+abbrev pub row_one : ℕ → ℕ → Bool → Row
+row_one at mid toned =
+    record { offsets = at ∷ at ∷ 0 ∷ 0 ∷ []; lengths = (mid - at) ∷ (mid - at - 1) ∷ 0 ∷ 0 ∷ []; radix = cond toned 2 1; end = mid }
 
-abbrev pub row_two : ℕ → ℕ → ℕ → Row
-row_two at mid end = record { offsets = at ∷ mid ∷ 0 ∷ 0 ∷ []; lengths = (mid - at) ∷ (end - mid) ∷ 0 ∷ 0 ∷ []; radix = 2; end = end }
-
-abbrev pub row_one_toned : ℕ → ℕ → Row
-row_one_toned at mid = record { offsets = at ∷ at ∷ 0 ∷ 0 ∷ []; lengths = (mid - at) ∷ (mid - at - 1) ∷ 0 ∷ 0 ∷ []; radix = 2; end = mid }
-
-abbrev pub row_two_toned : ℕ → ℕ → ℕ → Row
-row_two_toned at mid end =
+abbrev pub row_two : ℕ → ℕ → ℕ → Bool → Row
+row_two at mid end toned =
     record {
       offsets = at ∷ mid ∷ at ∷ mid ∷ [];
       lengths = (mid - at) ∷ (end - mid) ∷ (mid - at - 1) ∷ (end - mid - 1) ∷ [];
-      radix = 4;
+      radix = cond toned 4 2;
       end = end;
     }
 
@@ -102,7 +92,7 @@ laid_out forms offsets lengths radices parts = up_to (λ i. choices_at forms (ge
 
 -- a part has one, two or four choices
 abbrev pub Radix : ℕ → Type 0
-Radix n = (n ≡ 1) ⊎ ((n ≡ 2) ⊎ (n ≡ 4))
+Radix n = (0 < n) × (n ≤ 4) × (n ≢ 3)
 
 -- and each of them lies within the first `used` bytes
 pub record Within (offsets lengths : List ℕ) (radix used : ℕ) : Type 0 where

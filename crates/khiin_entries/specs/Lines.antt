@@ -8,8 +8,9 @@ use Rattle.ji.specs.Lomaji.Dot.{dot_in}
 use Rattle.ji.specs.declared.reply.Refusal.{Refusal}
 use Rattle.ji.specs.declared.lomaji.keys.Kind.{Kind}
 use Rattle.ji.specs.declared.lomaji.keys.Kind.TheVariants.{Detoned, Numeric, Telex}
-use Rattle.khiin_entries.specs.KeySequence.{split, keyings}
-use Rattle.khiin_entries.specs.Choices.{points_of, up_to, keying_in}
+use Rattle.khiin_entries.specs.declared.layout.Layout.{Layout}
+use Rattle.khiin_entries.specs.KeySequence.{keyings}
+use Rattle.khiin_entries.specs.Choices.{points_of, up_to, count_in, keying_in}
 use Rattle.khiin_entries.specs.Listing.{decimal, spaced, keying_lines, together, fitting, going_in}
 
 -- ── one line
@@ -18,8 +19,8 @@ unfoldable pub number_then : ℕ → ℕ → List ℕ
 number_then n last = decimal n ++ (last ∷ [])
 
 -- the header's line, by its numbers
-unfoldable pub header_line : ℕ → ℕ → ℕ → ℕ → ℕ → List ℕ
-header_line parts dots numeric telex detoned = spaced (parts ∷ dots ∷ numeric ∷ telex ∷ detoned ∷ []) ++ bytes "\n"
+unfoldable pub header_line : List ℕ → List ℕ
+header_line counts = spaced counts ++ bytes "\n"
 
 -- the line of a refusal
 unfoldable pub refusal_line : Refusal → List ℕ
@@ -37,13 +38,14 @@ letter_of Telex = point "T"
 letter_of Detoned = point "D"
 
 -- the line of the keying at a position: the kind's letter, the position and the keying, with a space between neighbours
-unfoldable pub line_in : ℕ → List ℕ → List (List ℕ) → List (List ℕ) → List ℕ → ℕ → ℕ → List ℕ
-line_in letter forms offsets lengths radices parts position =
-    (letter ∷ 0x20 ∷ []) ++ (number_then position 0x20 ++ (keying_in forms offsets lengths radices parts position ++ (0x0A ∷ [])))
+unfoldable pub line_in : ℕ → Layout → ℕ → List ℕ
+line_in letter layout position =
+    (letter ∷ 0x20 ∷ [])
+    ++ (number_then position 0x20 ++ (keying_in layout.forms.now layout.offsets layout.lengths layout.radices layout.parts position ++ (0x0A ∷ [])))
 
 -- the lines of a kind
-unfoldable pub lines_in : ℕ → List ℕ → List (List ℕ) → List (List ℕ) → List ℕ → ℕ → ℕ → List (List ℕ)
-lines_in letter forms offsets lengths radices parts count = up_to (line_in letter forms offsets lengths radices parts) count
+unfoldable pub lines_in : ℕ → Layout → List (List ℕ)
+lines_in letter layout = up_to (line_in letter layout) (count_in layout.radices layout.parts)
 
 -- ── many lines
 -- `text` stands from `at` on and ends at `end`; before and behind it the buffer is as it was
@@ -71,15 +73,6 @@ pub record Following (ls : List (List ℕ)) (first next at : ℕ) (before after 
 -- those of a kind
 unfoldable pub kind_lines : Kind → List ℕ → List (List ℕ)
 kind_lines kind entry = keying_lines kind 0 (keyings unicode16 kind (points_of entry))
-
--- the header, which gives these numbers of telex and detoned keyings, and the numeric lines
-unfoldable pub through_numeric : List ℕ → ℕ → ℕ → ℕ → List (List ℕ)
-through_numeric entry parts telex detoned =
-    (header_line parts (dotted_in (split entry)) (length (keyings unicode16 Numeric (points_of entry))) telex detoned ∷ []) ++ kind_lines Numeric entry
-
--- and the telex lines
-unfoldable pub through_telex : List ℕ → ℕ → ℕ → List (List ℕ)
-through_telex entry parts detoned = through_numeric entry parts (length (keyings unicode16 Telex (points_of entry))) detoned ++ kind_lines Telex entry
 
 -- of these lines those from number `from` on were written, as many as go in, from the buffer's front on; `lines` is how many there are
 pub record Reached (ls : List (List ℕ)) (from : ℕ) (before after : List ℕ) (next end lines : ℕ) : Type 0 where

@@ -2,4 +2,5 @@
 #![tactic(auto)]
 
 pub mod key_sequence;
+mod layout;
 pub mod listing;

@@ -9,7 +9,7 @@ use borrow.Author.Tests.{lt-ltb, le-ltb, ltb-true, le-leb, lt-leb}
 use lib.Dec.{ltb, leb}
 use lib.ListN.{length, drop, get_or}
 use lib.Seq.{paste, take-length}
-use Rattle.ji.specs.Unicode.{unicode16, pick_number}
+use Rattle.ji.specs.Unicode.{unicode16}
 use Rattle.ji.specs.Utf8.{encode}
 use Rattle.ji.specs.Reply.{Reply, refused, over, pick_reply, Checked, good, bad, pick_checked, check_within, verdict_of}
 use Rattle.ji.specs.declared.reply.Refusal.{Refusal}
@@ -19,12 +19,12 @@ use Rattle.ji.proofs.Bools.{either, and_yes}
 use Rattle.ji.proofs.unicode.Checked.{Passed, check_passed}
 use Rattle.khiin_entries.specs.KeySequence.{split, keyings, parts_fit, check_parts, check_entry, keyed, placed_keying, keying_at, keying_of, keying_call}
 use Rattle.khiin_entries.specs.Choices.{points_of, all_short, part_count, Entry, choices_in, laid_out, Laid, count_in, keying_in, laid_reply}
-use Rattle.khiin_entries.proofs.key_sequence.Splitting.{some_part, points_back, parts_are, parts_count, short_bytes}
+use Rattle.khiin_entries.proofs.key_sequence.Splitting.{points_back, parts_are, parts_count, short_bytes}
 use Rattle.khiin_entries.proofs.key_sequence.Combining.{count_is, keying_is}
 use Rattle.khiin_entries.proofs.key_sequence.Product.{size, place}
 use Rattle.khiin_entries.proofs.key_sequence.Laying.{count_laid, keying_laid}
 use Rattle.khiin_entries.proofs.key_sequence.Filling.{entry_passed, entry_parts}
-use Rattle.std.specs.Prelude.{Result, Ok, Err, ⊤}
+use Rattle.std.specs.Prelude.{Option as Found, Some, None, Result, Ok, Err, MatchResult, ok_or, cond, ⊤}
 
 -- ── the reply from the arrays
 module _ (count : ℕ) (output : List ℕ) (position : ℕ) (buffer : List ℕ) where
@@ -96,50 +96,53 @@ verdict_good : (c : Checked) → verdict_of c ≡ Ok tt → (s : List ℕ) × (c
 verdict_good (good s) e = (s, refl)
 verdict_good (bad why) e = absurd (let z : ◌≡◌ {A = ℕ} 0 1 = cc in omega arith)
 
-pub verdict_bad : (c : Checked) (why : Refusal) → verdict_of c ≡ Err why → c ≡ bad why
+verdict_bad : (c : Checked) (why : Refusal) → verdict_of c ≡ Err why → c ≡ bad why
 verdict_bad (good s) why e = absurd (let z : ◌≡◌ {A = ℕ} 0 1 = cc in omega arith)
 verdict_bad (bad w) why e = cc
 
 module _ (entry : List ℕ) (answer : Result ⊤ Refusal) (says : answer ≡ verdict_of (check_within unicode16 1024 entry)) where
-  pub call_refused : (kind : Kind) (position : ℕ) (buffer : List ℕ) (why : Refusal) → answer ≡ Err why → refused why buffer ≡ keying_call unicode16 entry kind position buffer
-  unfolding keying_call check_entry
-  call_refused kind position buffer why e =
-      sym (ap (λ (c : Checked). keying_of unicode16 kind (check_parts unicode16 c) position buffer) (verdict_bad (check_within unicode16 1024 entry) why (sym says ∙ e)))
+  pub entry_refused : (why : Refusal) → answer ≡ Err why → check_entry unicode16 entry ≡ bad why
+  unfolding check_entry
+  entry_refused why e = ap (check_parts unicode16) (verdict_bad (check_within unicode16 1024 entry) why (sym says ∙ e))
 
   -- the entry is good
   module _ (e : answer ≡ Ok tt) where
-    pub text : List ℕ
+    text : List ℕ
     text = (verdict_good (check_within unicode16 1024 entry) (sym says ∙ e)).0
 
-    pub check_is : check_within unicode16 1024 entry ≡ good text
+    check_is : check_within unicode16 1024 entry ≡ good text
     unfolding text
     check_is = (verdict_good (check_within unicode16 1024 entry) (sym says ∙ e)).1
 
     passed : Passed unicode16 1024 entry text
     passed = check_passed unicode16 1024 entry text check_is
 
-    pub passed_short : length entry ≤ 1024
-    passed_short = passed.short
-
     text_is : points_of entry ≡ text
     text_is = ap points_of (sym passed.written) ∙ points_back text passed.inside
 
-    pub entry_good : (parts : ℕ) → parts ≡ part_count entry → (parts ≡ 0 → ⊥) → Entry entry parts
-    entry_good parts c ne = record { checked = check_is ∙ ap good (sym text_is); count = c; some = omega arith }
+    entry_good : (parts : ℕ) → part_count entry ≡ Some parts → Entry entry parts
+    entry_good parts c = record { checked = check_is ∙ ap good (sym text_is); count = c }
 
     -- but its parts do not fit
-    pub fits_same : (leb (length (split text)) 16 && parts_fit unicode16 (split text)) ≡ (leb (length (split entry)) 16 && all_short (split entry))
+    fits_same : (leb (length (split text)) 16 && parts_fit unicode16 (split text)) ≡ (leb (length (split entry)) 16 && all_short (split entry))
     fits_same =
         ap₂ (λ (n : ℕ) (b : Bool). leb n 16 && b) (sym (parts_count entry text passed)) (sym (ap all_short (parts_are entry text passed) ∙ short_bytes unicode16 (split text)))
 
-    pub not_counted : 0 ≡ part_count entry → (leb (length (split entry)) 16 && all_short (split entry)) ≡ false
+    not_counted : part_count entry ≡ None → (leb (length (split entry)) 16 && all_short (split entry)) ≡ false
     unfolding part_count
-    not_counted z =
+    not_counted none =
         let test = leb (length (split entry)) 16 && all_short (split entry) in
-        either test (λ b. absurd (omega (arith, z, ap (λ (x : Bool). pick_number x (length (split entry)) 0) b, ap length (some_part entry).2))) (λ b. b)
+        either test (λ b. let some = sym (ap (λ (x : Bool). cond x (Some (length (split entry))) None) b) ∙ none in cc) (λ b. b)
 
-    pub call_parts : (kind : Kind) (position : ℕ) (buffer : List ℕ) → 0 ≡ part_count entry → refused Parts buffer ≡ keying_call unicode16 entry kind position buffer
-    unfolding keying_call check_entry
-    call_parts kind position buffer z =
-        sym (ap (λ (c : Checked). keying_of unicode16 kind (check_parts unicode16 c) position buffer) check_is
-        ∙ ap (λ (b : Bool). keying_of unicode16 kind (pick_checked b (good text) (bad Parts)) position buffer) (fits_same ∙ not_counted z))
+    parts_refused : part_count entry ≡ None → check_entry unicode16 entry ≡ bad Parts
+    unfolding check_entry
+    parts_refused none =
+        ap (check_parts unicode16) check_is ∙ ap (λ (b : Bool). pick_checked b (good text) (bad Parts)) (fits_same ∙ not_counted none)
+
+    pub parts_said : (found : Found ℕ) → found ≡ part_count entry → MatchResult (ok_or found Parts) (λ parts. Entry entry parts) (λ why. check_entry unicode16 entry ≡ bad why)
+    parts_said None c = parts_refused (sym c)
+    parts_said (Some parts) c = entry_good parts (sym c)
+
+pub call_refused : (entry : List ℕ) (kind : Kind) (position : ℕ) (buffer : List ℕ) (why : Refusal) → check_entry unicode16 entry ≡ bad why → refused why buffer ≡ keying_call unicode16 entry kind position buffer
+unfolding keying_call
+call_refused entry kind position buffer why e = sym (ap (λ (c : Checked). keying_of unicode16 kind c position buffer) e)

@@ -3,8 +3,7 @@
 use mathlib.Core.Path.{◌≡◌, refl, sym, ap, ap₂, ◌∙◌}
 use mathlib.Core.Bool.{Bool, true, false}
 use mathlib.Core.List.{List, [], ◌∷◌, ◌++◌, map, append-nil}
-use mathlib.Core.Logic.{inl, inr}
-use Prim.Native.Nat.{ℕ, ◌*◌, ◌/◌, ◌%◌, ◌≤◌, ◌<◌}
+use Prim.Native.Nat.{ℕ, ◌*◌, ◌/◌, ◌%◌, ◌<◌}
 use native.Mathlib.Omega.{arith}
 use borrow.Author.Tests.{ne_eqb}
 use lib.Dec.{eqb}
@@ -23,15 +22,14 @@ use Rattle.khiin_entries.proofs.key_sequence.Product.{size, place, Filled, lengt
 use Rattle.khiin_entries.proofs.key_sequence.Splitting.{some_part, Each, Inside, map_at, points_back, split_members, parts_are}
 
 -- a part has one, two or four choices
-pub radix_some : (n : ℕ) → Radix n → 0 < n
-radix_some n (inl e) = omega arith
-radix_some n (inr (inl e)) = omega arith
-radix_some n (inr (inr e)) = omega arith
+pub radix_one : Radix 1
+radix_one = (omega arith, omega arith, λ e. omega arith)
 
-pub radix_most : (n : ℕ) → Radix n → n ≤ 4
-radix_most n (inl e) = omega arith
-radix_most n (inr (inl e)) = omega arith
-radix_most n (inr (inr e)) = omega arith
+pub radix_two : Radix 2
+radix_two = (omega arith, omega arith, λ e. omega arith)
+
+pub radix_four : Radix 4
+radix_four = (omega arith, omega arith, λ e. omega arith)
 
 module _ (t : Table) where
   few_alone : (kind : Kind) (w : List ℕ) → Radix (length (alone t kind w))
@@ -39,16 +37,16 @@ module _ (t : Table) where
   few_alone kind w = go (same (keys t Plain Detoned w) (keys t Oo Detoned w))
     where
       go : (b : Bool) → Radix (length (pick_texts b (keys t Plain kind w ∷ []) (keys t Plain kind w ∷ keys t Oo kind w ∷ [])))
-      go true = inl refl
-      go false = inr (inl refl)
+      go true = radix_one
+      go false = radix_two
 
   few_forms : (kind : Kind) (w : List ℕ) → Radix (length (forms t kind w))
   unfolding forms
   few_forms kind w = go (holds_dot w)
     where
       go : (b : Bool) → Radix (length (pick_texts b (keys t Plain kind w ∷ keys t Oo kind w ∷ []) (keys t Plain kind w ∷ [])))
-      go true = inr (inl refl)
-      go false = inl refl
+      go true = radix_two
+      go false = radix_one
 
   few_both : (kind other : Kind) (w : List ℕ) → Radix (length (forms t kind w ++ forms t other w))
   unfolding forms
@@ -56,8 +54,8 @@ module _ (t : Table) where
     where
       go : (b : Bool)
           → Radix (length (pick_texts b (keys t Plain kind w ∷ keys t Oo kind w ∷ []) (keys t Plain kind w ∷ []) ++ pick_texts b (keys t Plain other w ∷ keys t Oo other w ∷ []) (keys t Plain other w ∷ [])))
-      go true = inr (inr refl)
-      go false = inr (inl refl)
+      go true = radix_four
+      go false = radix_two
 
   few_choices : (kind : Kind) (w : List ℕ) → Radix (length (choices t kind w))
   few_choices Detoned w = few_forms Detoned w
@@ -71,7 +69,7 @@ module _ (t : Table) where
   -- no part is without a choice
   filled : (single : Bool) (kind : Kind) (ws : List (List ℕ)) → Filled (map (chosen t single kind) ws)
   filled single kind [] = tt
-  filled single kind (w ∷ ws) = (radix_some _ (few_chosen single kind w), filled single kind ws)
+  filled single kind (w ∷ ws) = ((few_chosen single kind w).0, filled single kind ws)
 
   -- one part has the same form as several
   each_end : (xs : List (List ℕ)) → each xs ([] ∷ []) ≡ xs

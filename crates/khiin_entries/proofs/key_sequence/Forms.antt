@@ -1,11 +1,12 @@
 -- The forms of a part in bytes: what the call gives, and which of them are the part's choices.
 use mathlib.Core.Path.{◌≡◌, refl, sym, ap, ap₂, ◌∙◌, subst}
-use mathlib.Core.Bool.{Bool, true, false}
+use mathlib.Core.Bool.{Bool, true, false, ◌&&◌}
 use mathlib.Core.List.{List, [], ◌∷◌, ◌++◌, map}
 use Prim.Native.Nat.{ℕ, ◌+◌, ◌*◌, ◌≤◌, ◌<◌}
 use native.Mathlib.Omega.{arith}
 use borrow.Author.Tests.{le-leb}
-use lib.Dec.{T}
+use lib.Dec.{T, eqb}
+use Rattle.std.specs.Cmp.Lexicographic.{pointwise}
 use lib.ListN.{length, take, length-append}
 use lib.Seq.{take_at}
 use Rattle.ji.specs.Unicode.{unicode16, same}
@@ -60,6 +61,14 @@ module _ (form : Form) (kind : Kind) (part buffer : List ℕ) (h : check_text un
 
     pub call_answers : (why : Refusal) → answer ≡ Err why → ⊥
     call_answers why e = omega (arith, refusal_some why, ap (λ (r : Reply). r.code) (told (Err why) e))
+
+-- ── what `==` says of two texts
+pub same_pointwise : (a b : List ℕ) → pointwise eqb a b ≡ same a b
+unfolding same
+same_pointwise [] [] = refl
+same_pointwise [] (y ∷ b) = refl
+same_pointwise (x ∷ a) [] = refl
+same_pointwise (x ∷ a) (y ∷ b) = ap (λ (t : Bool). eqb x y && t) (same_pointwise a b)
 
 -- ── the forms of a part
 module _ (part : List ℕ) (h : check_text unicode16 part ≡ good (points_of part)) where

@@ -9,7 +9,6 @@ use lib.ListN.{length, drop, get_or, length-append, length-drop, get_or-append}
 use lib.Seq.{length-take-le, get_or_at}
 use Rattle.khiin_entries.specs.Choices.{up_to, choice_at, choices_at, laid_out, Radix, Within, Laid, count_in, length_in, keying_in}
 use Rattle.khiin_entries.proofs.key_sequence.Product.{size, place, size_snoc, place_snoc}
-use Rattle.khiin_entries.proofs.key_sequence.Combining.{radix_some, radix_most}
 
 -- ── a list by its elements
 module _ {ℓ} {A : Type ℓ} where
@@ -40,7 +39,7 @@ count_laid forms offsets lengths radices (suc n) =
 pub count_most : (radices : List ℕ) (n : ℕ) → ((i : ℕ) → i < n → Radix (get_or radices i 0)) → count_in radices n ≤ 4 ^ n
 count_most radices zero h = omega arith
 count_most radices (suc n) h =
-    rw (pow-succ' 4 n, mul_comm 4 (4 ^ n)) (mul-le-mul (count_most radices n (λ i k. h i (omega arith))) (radix_most _ (h n (omega arith))))
+    rw (pow-succ' 4 n, mul_comm 4 (4 ^ n)) (mul-le-mul (count_most radices n (λ i k. h i (omega arith))) ((h n (omega arith)).1))
 
 -- sixteen parts have at most 2 ^ 32
 pub count_fits : (radices : List ℕ) (n : ℕ) → n ≤ 16 → ((i : ℕ) → i < n → Radix (get_or radices i 0)) → count_in radices n ≤ 4294967296
@@ -52,10 +51,10 @@ count_fits radices n k h = le_trans (count_most radices n h) (pow-le-pow_right f
 -- ── the keying
 -- the digit of a part names one of its choices
 pub digit_below : (position radix value : ℕ) → Radix radix → value ≡ position % radix → value < radix
-digit_below position radix value h e = rw e (mod-lt position (radix_some radix h))
+digit_below position radix value h e = rw e (mod-lt position (h.0))
 
 pub digit_small : (position radix value : ℕ) → Radix radix → value ≡ position % radix → value < 4
-digit_small position radix value h e = omega (arith, digit_below position radix value h e, radix_most radix h)
+digit_small position radix value h e = omega (arith, digit_below position radix value h e, h.1)
 
 -- one part less: the digit of the last part, and what is left of the position
 module _ (lengths : List (List ℕ)) (radices : List ℕ) where
@@ -79,7 +78,7 @@ module _ (offsets lengths : List (List ℕ)) (radices : List ℕ) (used : ℕ) w
   length_most zero position h = omega arith
   length_most (suc n) position h =
       let r = get_or radices n 0 in
-      omega (arith, length_most n (position / r) (λ i k. h i (omega arith)), (h n (omega arith)).inside (position % r) (mod-lt position (radix_some _ (h n (omega arith)).few)), suc-mul n used)
+      omega (arith, length_most n (position / r) (λ i k. h i (omega arith)), (h n (omega arith)).inside (position % r) (mod-lt position ((h n (omega arith)).few.0)), suc-mul n used)
 
   module _ (forms : List ℕ) where
     pub keying_turn : (i position value rest : ℕ) → 0 < i → value ≡ position % get_or radices (i - 1) 0 → rest ≡ position / get_or radices (i - 1) 0 → keying_in forms offsets lengths radices i position ≡ keying_in forms offsets lengths radices (i - 1) rest ++ choice_at forms (get_or offsets (i - 1) []) (get_or lengths (i - 1) []) value
@@ -99,7 +98,7 @@ module _ (offsets lengths : List (List ℕ)) (radices : List ℕ) (used : ℕ) w
     keying_laid (suc n) position h =
         let r = get_or radices n 0 in
         let c = choice_at forms (get_or offsets n []) (get_or lengths n []) in
-        let some : 0 < r = radix_some r (h n (omega arith)).few in
+        let some : 0 < r = (h n (omega arith)).few.0 in
         ap₂ ◌++◌ (keying_laid n (position / r) (λ i k. h i (omega arith))) (sym (up_to_at c r (position % r) [] (mod-lt position some)))
         ∙ sym (place_snoc (laid_out forms offsets lengths radices n) (up_to c r) position
         ∙ ap (λ (m : ℕ). place (laid_out forms offsets lengths radices n) (position / m) ++ get_or (up_to c r) (position % m) []) (length_up_to c r))
@@ -114,6 +113,6 @@ module _ (offsets lengths : List (List ℕ)) (radices : List ℕ) (used : ℕ) w
       keying_length zero position h = refl
       keying_length (suc n) position h =
           let r = get_or radices n 0 in
-          let some : 0 < r = radix_some r (h n (omega arith)).few in
+          let some : 0 < r = (h n (omega arith)).few.0 in
           length-append (keying_in forms offsets lengths radices n (position / r)) (choice_at forms (get_or offsets n []) (get_or lengths n []) (position % r))
           ∙ ap₂ ◌+◌ (keying_length n (position / r) (λ i k. h i (omega arith))) (choice_length (get_or offsets n []) (get_or lengths n []) r (position % r) (h n (omega arith)) (mod-lt position some))

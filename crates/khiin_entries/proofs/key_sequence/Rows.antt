@@ -1,8 +1,7 @@
 -- The row of a part: what it says of the buffer are the part's choices.
-use mathlib.Core.Path.{◌≡◌, refl, sym, ap, ap₂, ◌∙◌}
-use mathlib.Core.Bool.{Bool}
+use mathlib.Core.Path.{◌≡◌, sym, ap, ap₂, ◌∙◌}
+use mathlib.Core.Bool.{Bool, true, false}
 use mathlib.Core.List.{List, [], ◌∷◌, ◌++◌}
-use mathlib.Core.Logic.{inl, inr}
 use Prim.Native.Nat.{ℕ, zero, suc, ◌+◌, ◌-◌, ◌*◌, ◌≤◌, ◌<◌}
 use native.Mathlib.Omega.{arith}
 use lib.ListN.{length, take, drop, get_or, length-append}
@@ -11,24 +10,25 @@ use Rattle.ji.specs.Unicode.{unicode16}
 use Rattle.ji.specs.Reply.{good, check_text}
 use Rattle.ji.specs.declared.lomaji.keys.Form.TheVariants.{Plain, Oo}
 use Rattle.ji.specs.declared.lomaji.keys.Kind.{Kind}
-use Rattle.khiin_entries.specs.Choices.{points_of, form_bytes, choices_of, row_one, row_two, row_one_toned, row_two_toned, RowOf, Within}
+use Rattle.khiin_entries.specs.Choices.{points_of, form_bytes, choices_of, row_one, row_two, RowOf, Within}
 use Rattle.khiin_entries.proofs.key_sequence.Writing.{Stands, pasted_length, put_stands, put_front, put_keeps, stands_front}
 use Rattle.khiin_entries.proofs.key_sequence.Forms.{form_bytes_law}
+use Rattle.khiin_entries.proofs.key_sequence.Combining.{radix_one, radix_two, radix_four}
 
 pub cut : {buffer : List ℕ} {at : ℕ} {s : List ℕ} → Stands buffer at s → (n : ℕ) → n ≡ length s → take n (drop at buffer) ≡ s
 cut {buffer} {at} {s} h n e = ap (λ (k : ℕ). take k (drop at buffer)) e ∙ h.text
 
--- ── the four rows
+-- ── the rows of one form and of two, not toned and toned
 module _ (single : Bool) (kind : Kind) (part before after : List ℕ) (at : ℕ) (front : take at after ≡ take at before) where
   module _ (p : List ℕ) (first : Stands after at p) (mid : ℕ) (is_mid : mid ≡ at + length p) where
-    within_one : Within (at ∷ 0 ∷ 0 ∷ 0 ∷ []) ((mid - at) ∷ 0 ∷ 0 ∷ 0 ∷ []) 1 mid
-    within_one = record { few = inl refl; inside = below }
+    within_one : Within (at ∷ at ∷ 0 ∷ 0 ∷ []) ((mid - at) ∷ (mid - at - 1) ∷ 0 ∷ 0 ∷ []) 1 mid
+    within_one = record { few = radix_one; inside = below }
       where
-        below : (j : ℕ) → j < 1 → get_or (at ∷ 0 ∷ 0 ∷ 0 ∷ []) j 0 + get_or ((mid - at) ∷ 0 ∷ 0 ∷ 0 ∷ []) j 0 ≤ mid
+        below : (j : ℕ) → j < 1 → get_or (at ∷ at ∷ 0 ∷ 0 ∷ []) j 0 + get_or ((mid - at) ∷ (mid - at - 1) ∷ 0 ∷ 0 ∷ []) j 0 ≤ mid
         below zero h = omega arith
         below (suc j) h = absurd (omega arith)
 
-    pub one_row : choices_of unicode16 single kind part ≡ p ∷ [] → mid ≤ at + (5 * length part + 2) → RowOf unicode16 single kind part at before after (row_one at mid)
+    pub one_row : choices_of unicode16 single kind part ≡ p ∷ [] → mid ≤ at + (5 * length part + 2) → RowOf unicode16 single kind part at before after (row_one at mid false)
     one_row are short =
         record {
           texts = ap (λ (l : List ℕ). l ∷ []) (cut first (mid - at) (omega arith)) ∙ sym are;
@@ -46,11 +46,11 @@ module _ (single : Bool) (kind : Kind) (part before after : List ℕ) (at : ℕ)
       q_stands : Stands after at q
       q_stands = stands_front q (k ∷ []) (rw toned at first)
 
-      pub one_toned_row : choices_of unicode16 single kind part ≡ p ∷ q ∷ [] → mid ≤ at + (5 * length part + 2) → RowOf unicode16 single kind part at before after (row_one_toned at mid)
+      pub one_toned_row : choices_of unicode16 single kind part ≡ p ∷ q ∷ [] → mid ≤ at + (5 * length part + 2) → RowOf unicode16 single kind part at before after (row_one at mid true)
       one_toned_row are short =
           record {
             texts = ap₂ (λ (x y : List ℕ). x ∷ y ∷ []) (cut first (mid - at) (omega arith)) (cut q_stands (mid - at - 1) (omega (arith, q_length))) ∙ sym are;
-            within = record { few = inr (inl refl); inside = below };
+            within = record { few = radix_two; inside = below };
             front = front;
             behind = omega arith;
             short = short;
@@ -63,22 +63,22 @@ module _ (single : Bool) (kind : Kind) (part before after : List ℕ) (at : ℕ)
 
     -- and a second form behind it
     module _ (o : List ℕ) (second : Stands after mid o) (end : ℕ) (is_end : end ≡ mid + length o) where
-      pub two_row : choices_of unicode16 single kind part ≡ p ∷ o ∷ [] → end ≤ at + (5 * length part + 2) → RowOf unicode16 single kind part at before after (row_two at mid end)
+      pub two_row : choices_of unicode16 single kind part ≡ p ∷ o ∷ [] → end ≤ at + (5 * length part + 2) → RowOf unicode16 single kind part at before after (row_two at mid end false)
       two_row are short =
           record {
             texts = ap₂ (λ (x y : List ℕ). x ∷ y ∷ []) (cut first (mid - at) (omega arith)) (cut second (end - mid) (omega arith)) ∙ sym are;
-            within = record { few = inr (inl refl); inside = below };
+            within = record { few = radix_two; inside = below };
             front = front;
             behind = omega arith;
             short = short;
           }
         where
-          below : (j : ℕ) → j < 2 → get_or (at ∷ mid ∷ 0 ∷ 0 ∷ []) j 0 + get_or ((mid - at) ∷ (end - mid) ∷ 0 ∷ 0 ∷ []) j 0 ≤ end
+          below : (j : ℕ) → j < 2 → get_or (at ∷ mid ∷ at ∷ mid ∷ []) j 0 + get_or ((mid - at) ∷ (end - mid) ∷ (mid - at - 1) ∷ (end - mid - 1) ∷ []) j 0 ≤ end
           below zero h = omega arith
           below (suc zero) h = omega arith
           below (suc (suc j)) h = absurd (omega arith)
 
-      pub two_toned_row : (q u : List ℕ) (k : ℕ) → p ≡ q ++ (k ∷ []) → o ≡ u ++ (k ∷ []) → choices_of unicode16 single kind part ≡ p ∷ o ∷ q ∷ u ∷ [] → end ≤ at + (5 * length part + 2) → RowOf unicode16 single kind part at before after (row_two_toned at mid end)
+      pub two_toned_row : (q u : List ℕ) (k : ℕ) → p ≡ q ++ (k ∷ []) → o ≡ u ++ (k ∷ []) → choices_of unicode16 single kind part ≡ p ∷ o ∷ q ∷ u ∷ [] → end ≤ at + (5 * length part + 2) → RowOf unicode16 single kind part at before after (row_two at mid end true)
       two_toned_row q u k p_toned o_toned are short =
           let n : length p ≡ length q + 1 = ap length p_toned ∙ length-append q (k ∷ []) in
           let m : length o ≡ length u + 1 = ap length o_toned ∙ length-append u (k ∷ []) in
@@ -88,7 +88,7 @@ module _ (single : Bool) (kind : Kind) (part before after : List ℕ) (at : ℕ)
           let bare : ◌≡◌ {A = List (List ℕ)} (take (mid - at - 1) (drop at after) ∷ take (end - mid - 1) (drop mid after) ∷ []) (q ∷ u ∷ []) = ap₂ (λ (x y : List ℕ). x ∷ y ∷ []) (cut q_stands (mid - at - 1) (omega arith)) (cut u_stands (end - mid - 1) (omega arith)) in
           record {
             texts = ap₂ (λ (x y : List (List ℕ)). x ++ y) whole bare ∙ sym are;
-            within = record { few = inr (inr refl); inside = below };
+            within = record { few = radix_four; inside = below };
             front = front;
             behind = omega arith;
             short = short;

@@ -2,15 +2,17 @@
 use mathlib.Core.Path.{◌≡◌, refl, sym, ap, ap₂, ◌∙◌}
 use mathlib.Core.Bool.{Bool, true, ◌&&◌}
 use mathlib.Core.List.{List, [], ◌∷◌, ◌++◌, map}
-use Prim.Native.Nat.{ℕ, zero, suc, ◌+◌, ◌-◌, ◌≤◌, ◌<◌}
-use native.Mathlib.Nat.{add-zero}
-use native.Mathlib.Numerals.{add-one}
+use Prim.Native.Nat.{ℕ, zero, suc, ◌≤◌, ◌<◌}
 use native.Mathlib.Decide.{dec_le, ℕ_discrete}
 use native.Mathlib.Omega.{arith}
 use borrow.Author.Tests.{eq-eqb, ne_eqb, leb-true}
-use lib.Dec.{leb}
-use lib.ListN.{length, take, drop, get_or, length-map, get_or-map, length-drop, drop_of_length-le}
-use lib.Seq.{drop-cons, drop-drop, get_or-drop}
+use lib.Dec.{leb, eqb}
+use lib.ListN.{length, get_or, length-map, get_or-map}
+use Rattle.std.specs.List.{slice_split, onto_first, enumerate_from}
+use Rattle.std.proofs.lemmas.List.FromFn.{length-enumerate_from, get_or-enumerate_from}
+use native.Mathlib.Nat.{zero-add}
+use Rattle.std.proofs.lemmas.List.{get_or_default}
+use Rattle.std.proofs.lemmas.List.Splits.{slice_split-cons_yes, slice_split-cons_no}
 use Rattle.ji.specs.Unicode.{Table, All, unicode16, member, members}
 use Rattle.ji.specs.Utf8.{bytes_of, encode}
 use Rattle.ji.specs.Reply.{good, check_text}
@@ -20,18 +22,18 @@ use Rattle.ji.proofs.unicode.Bytes.{bytes_one, bytes_two, bytes_three, bytes_fou
 use Rattle.ji.proofs.unicode.Checked.{read_back, check_passes, Passed}
 use Rattle.khiin_entries.specs.KeySequence.{pick_texts, in_front, split, holds_dot, parts_fit}
 use Rattle.ji.proofs.lomaji.dot.Laws.{dot_listed}
-use Rattle.khiin_entries.specs.Choices.{text_in, points_of, first_part, all_short}
+use Rattle.khiin_entries.specs.Choices.{text_in, points_of, all_short}
 
 -- ── one code point
-split_nil : split [] ≡ [] ∷ []
+pub split_nil : split [] ≡ [] ∷ []
 unfolding split
 split_nil = refl
 
-split_space : (c : ℕ) (s : List ℕ) → c ≡ 0x20 → split (c ∷ s) ≡ [] ∷ split s
+pub split_space : (c : ℕ) (s : List ℕ) → c ≡ 0x20 → split (c ∷ s) ≡ [] ∷ split s
 unfolding split
 split_space c s e = ap (λ (b : Bool). pick_texts b ([] ∷ split s) (in_front c (split s))) (eq-eqb c 0x20 e)
 
-split_other : (c : ℕ) (s : List ℕ) → (c ≡ 0x20 → ⊥) → split (c ∷ s) ≡ in_front c (split s)
+pub split_other : (c : ℕ) (s : List ℕ) → (c ≡ 0x20 → ⊥) → split (c ∷ s) ≡ in_front c (split s)
 unfolding split
 split_other c s ne = ap (λ (b : Bool). pick_texts b ([] ∷ split s) (in_front c (split s))) (ne_eqb c 0x20 ne)
 
@@ -46,6 +48,22 @@ some_more c s p (no ne) = (c ∷ p.0, p.1, split_other c s ne ∙ ap (in_front c
 pub some_part : (s : List ℕ) → Parted (split s)
 some_part [] = ([], [], split_nil)
 some_part (c ∷ s) = some_more c s (some_part s) (ℕ_discrete c 0x20)
+
+-- the library cuts a slice at a test in the same way
+abbrev pub is_space : ℕ → Bool
+is_space b = eqb b 0x20
+
+front_same : (c : ℕ) (ws : List (List ℕ)) → onto_first c ws ≡ in_front c ws
+front_same c [] = refl
+front_same c (w ∷ ws) = refl
+
+cut_more : (c : ℕ) (s : List ℕ) → slice_split is_space s ≡ split s → Dec (c ≡ 0x20) → slice_split is_space (c ∷ s) ≡ split (c ∷ s)
+cut_more c s ih (yes e) = slice_split-cons_yes is_space c s (eq-eqb c 0x20 e) ∙ ap (λ (ws : List (List ℕ)). [] ∷ ws) ih ∙ sym (split_space c s e)
+cut_more c s ih (no ne) = slice_split-cons_no is_space c s (ne_eqb c 0x20 ne) ∙ ap (onto_first c) ih ∙ front_same c (split s) ∙ sym (split_other c s ne)
+
+pub split_cut : (s : List ℕ) → slice_split is_space s ≡ split s
+split_cut [] = sym split_nil
+split_cut (c ∷ s) = cut_more c s (split_cut s) (ℕ_discrete c 0x20)
 
 -- what holds of each part
 abbrev pub Each : (List ℕ → Type 0) → List (List ℕ) → Type 0
@@ -114,101 +132,6 @@ pub dot_bytes : (w : List ℕ) → dot_in (encode w) ≡ holds_dot w
 unfolding holds_dot
 dot_bytes w = dot_listed w
 
--- ── the first part, and the others
-pub split_first : (s : List ℕ) → split s ≡ first_part s ∷ drop 1 (split s)
-unfolding first_part
-split_first s = let p = some_part s in rw p.2
-
-pub first_nil : first_part [] ≡ []
-unfolding first_part
-first_nil = ap (λ (ps : List (List ℕ)). get_or ps 0 []) split_nil
-
-pub first_space : (c : ℕ) (s : List ℕ) → c ≡ 0x20 → first_part (c ∷ s) ≡ []
-unfolding first_part
-first_space c s e = ap (λ (ps : List (List ℕ)). get_or ps 0 []) (split_space c s e)
-
-pub first_other : (c : ℕ) (s : List ℕ) → (c ≡ 0x20 → ⊥) → first_part (c ∷ s) ≡ c ∷ first_part s
-unfolding first_part
-first_other c s ne = let p = some_part s in rw (split_other c s ne, p.2)
-
--- f is the first part of s: the text up to its end, where a space or nothing follows
-pub record Ended (s f : List ℕ) : Type 0 where
-  pub inside : length f ≤ length s
-  pub text : take (length f) s ≡ f
-  pub last : length s ≤ length f → split s ≡ f ∷ []
-  pub next : length f < length s → split s ≡ f ∷ split (drop (suc (length f)) s)
-
-ended_more : (c : ℕ) (s : List ℕ) → Ended s (first_part s) → Dec (c ≡ 0x20) → Ended (c ∷ s) (first_part (c ∷ s))
-ended_more c s ih (yes e) =
-    rw (first_space c s e)
-    (record { inside = omega arith; text = refl; last = λ h. absurd (omega arith); next = λ h. split_space c s e })
-ended_more c s ih (no ne) =
-    let f = first_part s in
-    let n : length f ≤ length s = ih.inside in
-    rw (first_other c s ne)
-    (record {
-      inside = omega arith;
-      text = ap (λ (l : List ℕ). c ∷ l) ih.text;
-      last = λ h. split_other c s ne ∙ ap (in_front c) (ih.last (omega arith));
-      next = λ h. split_other c s ne ∙ ap (in_front c) (ih.next (omega arith));
-    })
-
-pub ended : (s : List ℕ) → Ended s (first_part s)
-ended [] = rw first_nil (record { inside = omega arith; text = refl; last = λ h. split_nil; next = λ h. absurd (omega arith) })
-ended (c ∷ s) = ended_more c s (ended s) (ℕ_discrete c 0x20)
-
--- where the first part ends, one byte at a time
-module _ (s : List ℕ) (i : ℕ) where
-  pub first_ends : i < length s → get_or s i 0 ≡ 0x20 → length (first_part (drop i s)) ≡ 0
-  first_ends h e = rw (drop-cons s i 0 h, first_space (get_or s i 0) (drop (suc i) s) e)
-
-  pub first_goes : i < length s → (get_or s i 0 ≡ 0x20 → ⊥) → length (first_part (drop i s)) ≡ suc (length (first_part (drop (i + 1) s)))
-  first_goes h ne = rw (drop-cons s i 0 h, first_other (get_or s i 0) (drop (suc i) s) ne, add-one i)
-
-  pub first_over : length s ≤ i → length (first_part (drop i s)) ≡ 0
-  first_over h = rw (drop_of_length-le s h, first_nil)
-
--- n parts are passed, and the next one starts at `at`
-pub record Passing (s : List ℕ) (n at : ℕ) : Type 0 where
-  pub here : at ≤ length s → drop n (split s) ≡ split (drop at s)
-  pub over : length s < at → drop n (split s) ≡ []
-
-pub passing_start : (s : List ℕ) → Passing s 0 0
-passing_start s = record { here = λ h. refl; over = λ h. absurd (omega arith) }
-
-module _ {s : List ℕ} {n at : ℕ} (p : Passing s n at) (h : at ≤ length s) where
-  abbrev first : List ℕ
-  first = first_part (drop at s)
-
-  passed : drop n (split s) ≡ first ∷ drop 1 (split (drop at s))
-  passed = p.here h ∙ split_first (drop at s)
-
-  pub passing_more : n < length (split s)
-  passing_more = omega (arith, ap length passed, length-drop n (split s))
-
-  pub passing_text : get_or (split s) n [] ≡ first
-  passing_text = ap (λ (m : ℕ). get_or (split s) m []) (sym (add-zero n)) ∙ sym (get_or-drop n (split s) 0 []) ∙ ap (λ (l : List (List ℕ)). get_or l 0 []) passed
-
-  module _ (end : ℕ) (e : end ≡ at + length first) where
-    pub passing_inside : end ≤ length s
-    passing_inside = omega (arith, (ended (drop at s)).inside, length-drop at s)
-
-    -- it is the part of the text between the two places
-    pub passing_cut : take (end - at) (drop at s) ≡ get_or (split s) n []
-    passing_cut =
-        let z : end - at ≡ length first = omega arith in
-        ap (λ (m : ℕ). take m (drop at s)) z ∙ (ended (drop at s)).text ∙ sym passing_text
-
-    pub passing_next : Passing s (n + 1) (end + 1)
-    passing_next =
-        let l : length (drop at s) ≡ length s - at = length-drop at s in
-        let behind : (ps : List (List ℕ)) → split (drop at s) ≡ first ∷ ps → drop (n + 1) (split s) ≡ ps = λ ps q. sym (drop-drop 1 n (split s)) ∙ ap (drop 1) (p.here h ∙ q) in
-        let z : suc (length first) + at ≡ end + 1 = omega arith in
-        record {
-          here = λ k. behind _ ((ended (drop at s)).next (omega arith)) ∙ ap split (drop-drop (suc (length first)) at s ∙ ap (λ (m : ℕ). drop m s) (let y : at + suc (length first) ≡ end + 1 = omega arith in y));
-          over = λ k. behind [] ((ended (drop at s)).last (omega arith));
-        }
-
 -- ── the parts of a good entry
 -- the same of the bytes: none has more than 256
 pub short_bytes : (t : Table) (ws : List (List ℕ)) → all_short (map encode ws) ≡ parts_fit t ws
@@ -250,3 +173,14 @@ module _ (entry s : List ℕ) (h : Passed unicode16 1024 entry s) where
     unfolding check_text
     part_good short =
         rw (part_is, points_back part part_inside) (check_passes 256 part part_inside (rw part_is at short))
+
+-- the numbered parts, as the library yields them
+pub numbered_part : (s : List ℕ) (k i : ℕ) (w : List ℕ) → (k < length (enumerate_from 0 (slice_split is_space s))) × ((i, w) ≡ get_or (enumerate_from 0 (slice_split is_space s)) k (i, w))
+    → (k < length (split s)) × (i ≡ k) × (w ≡ get_or (split s) k [])
+numbered_part s k i w (h, e) =
+    let less : k < length (split s) = rw (← split_cut s) (rw length-enumerate_from at h) in
+    let same = e ∙ get_or-enumerate_from 0 (slice_split is_space s) k (i, w) (rw length-enumerate_from at h) in
+    (less, ap (λ p. p.0) same ∙ zero-add k, ap (λ p. p.1) same ∙ ap (λ (ws : List (List ℕ)). get_or ws k w) (split_cut s) ∙ get_or_default (split s) k w [] less)
+
+pub numbered_all : (s : List ℕ) (k : ℕ) → k ≡ length (enumerate_from 0 (slice_split is_space s)) → k ≡ length (split s)
+numbered_all s k e = e ∙ length-enumerate_from 0 (slice_split is_space s) ∙ ap length (split_cut s)

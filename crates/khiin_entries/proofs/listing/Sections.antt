@@ -9,22 +9,21 @@ use lib.ListN.{length, drop, get_or, length-append, length-drop}
 use lib.Seq.{ext_get_or}
 use Rattle.ji.specs.Unicode.{unicode16, pick_number}
 use Rattle.ji.specs.Utf8.{encode, bytes_of}
-use Rattle.ji.specs.Reply.{Checked, good, bad, pick_checked, over, verdict_of, check_within}
+use Rattle.ji.specs.Reply.{bad, over}
 use Rattle.ji.specs.declared.reply.Refusal.{Refusal}
-use Rattle.ji.specs.declared.reply.Refusal.TheVariants.{Parts}
 use Rattle.ji.specs.declared.lomaji.keys.Kind.{Kind}
 use Rattle.ji.specs.declared.lomaji.keys.Kind.TheVariants.{Detoned, Numeric, Telex}
-use Rattle.khiin_entries.specs.KeySequence.{split, keyings, check_parts, check_entry}
-use Rattle.khiin_entries.specs.Choices.{points_of, part_count, Entry, choices_in, laid_out, Laid, count_in, keying_in}
+use Rattle.khiin_entries.specs.KeySequence.{split, keyings, check_entry}
+use Rattle.khiin_entries.specs.Choices.{points_of, Entry, choices_in, laid_out, count_in, keying_in}
 use Rattle.khiin_entries.specs.Listing.{decimal, dotted, keying_line, keying_lines, header, listing_of, listing, together, going_in, shown}
-use Rattle.khiin_entries.specs.Lines.{number_then, header_line, refusal_line, dotted_in, letter_of, line_in, lines_in, shown_text, Shown, Following, kind_lines, through_numeric, through_telex, Reached}
+use Rattle.khiin_entries.specs.Lines.{number_then, header_line, refusal_line, dotted_in, letter_of, line_in, lines_in, shown_text, Shown, Following, kind_lines, Reached}
+use Rattle.khiin_entries.specs.declared.layout.Layout.{Layout}
 use Rattle.khiin_entries.proofs.key_sequence.Splitting.{parts_are, parts_count, dot_bytes}
-use Rattle.khiin_entries.proofs.key_sequence.Laying.{length_up_to, up_to_at, count_fits}
+use Rattle.khiin_entries.proofs.key_sequence.Laying.{length_up_to, up_to_at}
 use Rattle.khiin_entries.proofs.key_sequence.Filling.{entry_passed, entry_parts}
-use Rattle.khiin_entries.proofs.key_sequence.Calling.{checked_good, laid_count, laid_keying, verdict_bad, check_is, text, fits_same, not_counted}
+use Rattle.khiin_entries.proofs.key_sequence.Calling.{checked_good, laid_count, laid_keying}
 use Rattle.khiin_entries.proofs.listing.Fitting.{fit_most, going_count}
 use Rattle.khiin_entries.proofs.listing.Putting.{put_length, following}
-use Rattle.std.specs.Prelude.{Result, Ok, Err}
 
 -- ── the lines of a kind
 pub lines_count : (kind : Kind) (at : ℕ) (ks : List (List ℕ)) → length (keying_lines kind at ks) ≡ length ks
@@ -41,36 +40,39 @@ lines_at kind at (k ∷ ks) (suc i) h =
     lines_at kind (suc at) ks i (omega arith) ∙ ap (λ (m : ℕ). keying_line kind m (get_or ks i [])) z
 
 -- one line, by the letter of its kind
-module _ (forms : List ℕ) (offsets lengths : List (List ℕ)) (radices : List ℕ) (parts position : ℕ) (k : List ℕ) (e : keying_in forms offsets lengths radices parts position ≡ encode k) where
-  behind : number_then position 0x20 ++ (keying_in forms offsets lengths radices parts position ++ (0x0A ∷ [])) ≡ decimal position ++ (0x20 ∷ (encode k ++ (0x0A ∷ [])))
+module _ (layout : Layout) (position : ℕ) (k : List ℕ) (e : keying_in layout.forms.now layout.offsets layout.lengths layout.radices layout.parts position ≡ encode k) where
+  behind : number_then position 0x20 ++ (keying_in layout.forms.now layout.offsets layout.lengths layout.radices layout.parts position ++ (0x0A ∷ [])) ≡ decimal position ++ (0x20 ∷ (encode k ++ (0x0A ∷ [])))
   unfolding number_then
   behind =
-      append_assoc (decimal position) (0x20 ∷ []) (keying_in forms offsets lengths radices parts position ++ (0x0A ∷ []))
+      append_assoc (decimal position) (0x20 ∷ []) (keying_in layout.forms.now layout.offsets layout.lengths layout.radices layout.parts position ++ (0x0A ∷ []))
       ∙ ap (λ (l : List ℕ). decimal position ++ (0x20 ∷ (l ++ (0x0A ∷ [])))) e
 
-  line_is : (kind : Kind) → line_in (letter_of kind) forms offsets lengths radices parts position ≡ keying_line kind position k
+  line_is : (kind : Kind) → line_in (letter_of kind) layout position ≡ keying_line kind position k
   unfolding line_in keying_line encode bytes_of
   line_is Numeric = ap (λ (l : List ℕ). 0x4E ∷ 0x20 ∷ l) behind
   line_is Telex = ap (λ (l : List ℕ). 0x54 ∷ 0x20 ∷ l) behind
   line_is Detoned = ap (λ (l : List ℕ). 0x44 ∷ 0x20 ∷ l) behind
 
-module _ {entry : List ℕ} {parts : ℕ} (h : Entry entry parts) (kind : Kind) where
+-- the layout of an entry gives the definition's lines
+module _ {entry : List ℕ} (kind : Kind) (layout : Layout) (h : Entry entry layout.parts) (texts : laid_out layout.forms.now layout.offsets layout.lengths layout.radices layout.parts ≡ choices_in unicode16 kind entry) where
   abbrev ks : List (List ℕ)
   ks = keyings unicode16 kind (points_of entry)
 
-  -- the arrays give the definition's lines
-  pub lines_are : (forms : List ℕ) (offsets lengths : List (List ℕ)) (radices : List ℕ) (used count : ℕ) → Laid offsets lengths radices parts used → laid_out forms offsets lengths radices parts ≡ choices_in unicode16 kind entry → count ≡ length ks
-      → lines_in (letter_of kind) forms offsets lengths radices parts count ≡ keying_lines kind 0 ks
-  unfolding lines_in
-  lines_are forms offsets lengths radices used count laid texts e =
-      let line = line_in (letter_of kind) forms offsets lengths radices parts in
+  pub counted : count_in layout.radices layout.parts ≡ length ks
+  counted = laid_count h kind 0 [] layout.forms.now layout.offsets layout.lengths layout.radices _ layout.laid texts
+
+  pub lines_are : lines_in (letter_of kind) layout ≡ kind_lines kind entry
+  unfolding lines_in kind_lines
+  lines_are =
+      let line = line_in (letter_of kind) layout in
+      let count = count_in layout.radices layout.parts in
       let n = length_up_to line count in
-      ext_get_or [] _ _ (n ∙ e ∙ sym (lines_count kind 0 ks))
+      ext_get_or [] _ _ (n ∙ counted ∙ sym (lines_count kind 0 ks))
       (λ i k. let b : i < count = omega (arith, n, k) in
       up_to_at line count i [] b
-      ∙ line_is forms offsets lengths radices parts i (get_or ks i []) (laid_keying h kind i [] forms offsets lengths radices used laid texts (omega (arith, e, laid_count h kind 0 [] forms offsets lengths radices used laid texts))) kind
+      ∙ line_is layout i (get_or ks i []) (laid_keying h kind i [] layout.forms.now layout.offsets layout.lengths layout.radices _ layout.laid texts b) kind
       ∙ ap (λ (m : ℕ). keying_line kind m (get_or ks i [])) (sym (zero-add i))
-      ∙ sym (lines_at kind 0 ks i (omega arith)))
+      ∙ sym (lines_at kind 0 ks i (omega (arith, counted))))
 
 -- ── one section behind another
 pub shown_fits : {ls : List (List ℕ)} {from at : ℕ} {before after : List ℕ} {next end : ℕ} → Shown ls from at before after next end → end ≤ length after
@@ -96,68 +98,50 @@ dotted_bytes (w ∷ ws) = ap₂ (λ (b : Bool) (n : ℕ). pick_number b 1 0 + n)
 abbrev count_of : Kind → List ℕ → ℕ
 count_of kind entry = length (keyings unicode16 kind (points_of entry))
 
+-- one kind more
+module _ {entry : List ℕ} (kind : Kind) (layout : Layout) (h : Entry entry layout.parts) (texts : laid_out layout.forms.now layout.offsets layout.lengths layout.radices layout.parts ≡ choices_in unicode16 kind entry) where
+  pub section_reached : (ls : List (List ℕ)) {from : ℕ} {before mid after : List ℕ} {next end lines next' end' : ℕ} → Reached ls from before mid next end lines
+      → Following (lines_in (letter_of kind) layout) lines next end mid after next' end' → Reached (ls ++ kind_lines kind entry) from before after next' end' (lines + count_in layout.radices layout.parts)
+  unfolding kind_lines
+  section_reached ls r f =
+      record {
+        written = following ls (kind_lines kind entry) _ _ _ _ _ _ _ _ _ r.written (rw (lines_are kind layout h texts, r.count) at f);
+        count = omega (arith, r.count, counted kind layout h texts, length-append ls (kind_lines kind entry), lines_count kind 0 (keyings unicode16 kind (points_of entry)));
+      }
+
 module _ {entry : List ℕ} {parts : ℕ} (h : Entry entry parts) where
-  -- one kind more
-  module _ (kind : Kind) (forms : List ℕ) (offsets lengths : List (List ℕ)) (radices : List ℕ) (used count : ℕ)
-      (laid : Laid offsets lengths radices parts used) (texts : laid_out forms offsets lengths radices parts ≡ choices_in unicode16 kind entry) (is : count ≡ count_in radices parts) where
-    pub count_is : (count ≡ count_of kind entry) × (count ≤ 4294967296)
-    count_is =
-        let e : count_in radices parts ≡ count_of kind entry = laid_count h kind 0 [] forms offsets lengths radices used laid texts in
-        (is ∙ e, omega (arith, is, count_fits radices parts (entry_parts h).1 (λ i k. (laid i k).few)))
-
-    lines_here : lines_in (letter_of kind) forms offsets lengths radices parts count ≡ kind_lines kind entry
-    unfolding kind_lines
-    lines_here = lines_are h kind forms offsets lengths radices used count laid texts count_is.0
-
-    pub section_reached : (ls : List (List ℕ)) {from : ℕ} {before mid after : List ℕ} {next end lines next' end' lines' : ℕ} → Reached ls from before mid next end lines → lines' ≡ lines + count
-        → Following (lines_in (letter_of kind) forms offsets lengths radices parts count) lines next end mid after next' end' → Reached (ls ++ kind_lines kind entry) from before after next' end' lines'
-    unfolding kind_lines
-    section_reached ls r e f =
-        record {
-          written = following ls (kind_lines kind entry) _ _ _ _ _ _ _ _ _ r.written (rw (lines_here, r.count) at f);
-          count = omega (arith, e, r.count, count_is.0, length-append ls (kind_lines kind entry), lines_count kind 0 (keyings unicode16 kind (points_of entry)));
-        }
-
   abbrev s : List ℕ
   s = points_of entry
 
-  header_is : header_line parts (dotted_in (split entry)) (count_of Numeric entry) (count_of Telex entry) (count_of Detoned entry) ≡ header unicode16 s
+  abbrev counts : List ℕ
+  counts = parts ∷ dotted_in (split entry) ∷ count_of Numeric entry ∷ count_of Telex entry ∷ count_of Detoned entry ∷ []
+
+  header_is : header_line counts ≡ header unicode16 s
   unfolding header header_line
   header_is =
       let p : parts ≡ length (split s) = (entry_parts h).0 ∙ parts_count entry s (entry_passed h) in
       let d : dotted_in (split entry) ≡ dotted (split s) = ap dotted_in (parts_are entry s (entry_passed h)) ∙ dotted_bytes (split s) in
       rw (p, d)
 
-  -- all kinds: the listing
-  pub listing_is : (detoned : ℕ) → detoned ≡ count_of Detoned entry → through_telex entry parts detoned ++ kind_lines Detoned entry ≡ listing unicode16 entry
-  unfolding listing through_telex through_numeric kind_lines
-  listing_is detoned e =
-      rw e
-      (append_assoc ((header_line parts (dotted_in (split entry)) (count_of Numeric entry) (count_of Telex entry) (count_of Detoned entry) ∷ []) ++ kind_lines Numeric entry) (kind_lines Telex entry) (kind_lines Detoned entry)
+  -- the header, and all kinds: the listing
+  pub listing_is : (header_line counts ∷ []) ++ kind_lines Numeric entry ++ kind_lines Telex entry ++ kind_lines Detoned entry ≡ listing unicode16 entry
+  unfolding listing kind_lines
+  listing_is =
+      append_assoc ((header_line counts ∷ []) ++ kind_lines Numeric entry) (kind_lines Telex entry) (kind_lines Detoned entry)
       ∙ ap (λ (l : List ℕ). l ∷ (kind_lines Numeric entry ++ (kind_lines Telex entry ++ kind_lines Detoned entry))) header_is
-      ∙ sym (ap (listing_of unicode16) (checked_good h Numeric 0 [])))
+      ∙ sym (ap (listing_of unicode16) (checked_good h Numeric 0 []))
 
-pub head_reached : (entry : List ℕ) (parts dots numeric telex detoned : ℕ) {from : ℕ} {before after : List ℕ} {next end : ℕ} → dots ≡ dotted_in (split entry) → numeric ≡ count_of Numeric entry → Shown (header_line parts dots numeric telex detoned ∷ []) from 0 before after next end
-    → Reached (header_line parts (dotted_in (split entry)) (count_of Numeric entry) telex detoned ∷ []) from before after next end 1
-head_reached entry parts dots numeric telex detoned d n h = record { written = rw (← d, ← n) h; count = refl }
-
-pub reached_as : {ls ls' : List (List ℕ)} {from : ℕ} {before after : List ℕ} {next end lines : ℕ} → ls ≡ ls' → Reached ls from before after next end lines → Reached ls' from before after next end lines
-reached_as e h = rw (← e) h
+pub head_reached : {entry : List ℕ} {parts dots numeric telex detoned : ℕ} (h : Entry entry parts) → dots ≡ dotted_in (split entry) → numeric ≡ count_of Numeric entry → telex ≡ count_of Telex entry → detoned ≡ count_of Detoned entry
+    → {from : ℕ} {before after : List ℕ} {next end : ℕ} → Shown (header_line (parts ∷ dots ∷ numeric ∷ telex ∷ detoned ∷ []) ∷ []) from 0 before after next end → Reached (header_line (counts h) ∷ []) from before after next end 1
+head_reached h e n t d s = record { written = rw (← e, ← n, ← t, ← d) s; count = refl }
 
 pub reached_fits : {ls : List (List ℕ)} {from : ℕ} {before after : List ℕ} {next end lines : ℕ} → Reached ls from before after next end lines → end ≤ length after
 reached_fits r = shown_fits r.written
 
 -- ── an entry that is refused
-module _ (entry : List ℕ) (answer : Result (Unit {0}) Refusal) (says : answer ≡ verdict_of (check_within unicode16 1024 entry)) where
-  pub listing_refused : (why : Refusal) → answer ≡ Err why → listing unicode16 entry ≡ refusal_line why ∷ []
-  unfolding listing refusal_line check_entry
-  listing_refused why e = ap (λ (c : Checked). listing_of unicode16 (check_parts unicode16 c)) (verdict_bad (check_within unicode16 1024 entry) why (sym says ∙ e))
-
-  pub listing_parts : answer ≡ Ok tt → 0 ≡ part_count entry → listing unicode16 entry ≡ refusal_line Parts ∷ []
-  unfolding listing refusal_line check_entry
-  listing_parts e z =
-      ap (λ (c : Checked). listing_of unicode16 (check_parts unicode16 c)) (check_is entry answer says e)
-      ∙ ap (λ (b : Bool). listing_of unicode16 (pick_checked b (good (text entry answer says e)) (bad Parts))) (fits_same entry answer says e ∙ not_counted entry answer says e z)
+pub listing_refused : (entry : List ℕ) (why : Refusal) → check_entry unicode16 entry ≡ bad why → listing unicode16 entry ≡ refusal_line why ∷ []
+unfolding listing refusal_line
+listing_refused entry why e = ap (listing_of unicode16) e
 
 -- ── what the caller is told
 pub told : (entry : List ℕ) (ls : List (List ℕ)) (from : ℕ) (before after : List ℕ) (next end : ℕ) → listing unicode16 entry ≡ ls → Shown ls from 0 before after next end

@@ -1,26 +1,35 @@
 -- `listing::list_entry` meets its contract.
-use mathlib.Core.Path.{refl}
-use Rattle.ji.specs.declared.lomaji.keys.Kind.TheVariants.{Detoned}
-use Rattle.khiin_entries.proofs.key_sequence.Filling.{entry_passed, entry_parts}
-use Rattle.khiin_entries.proofs.listing.Sections.{count_is, reached_fits, reached_as, section_reached, listing_is}
-use borrow.Author.Rules.{rules}
-use native.Mathlib.Omega.{arith}
+use Rattle.std.proofs.Common.{◌∙◌, arith}
+use Rattle.ji.specs.declared.lomaji.keys.Kind.TheVariants.{Detoned, Numeric, Telex}
+use Rattle.khiin_entries.specs.Choices.{Entry}
+use Rattle.khiin_entries.proofs.key_sequence.Filling.{entry_passed}
+use Rattle.khiin_entries.proofs.listing.Sections.{counted, head_reached, section_reached, listing_is}
 use Rattle.khiin_entries.proofs.listing.list_entry.Goals as goal
 
-pub lay_parts-radices-requires : goal.lay_parts-radices-requires
-lay_parts-radices-requires c = (c.requires, refl, refl, omega (arith, (entry_passed c.requires).short), omega arith)
+pub lay_out-numeric-requires : goal.lay_out-numeric-requires
+lay_out-numeric-requires c = (c.requires, omega (arith, (entry_passed c.requires).short), omega arith)
 
-pub count_of-detoned-requires : goal.count_of-detoned-requires
-count_of-detoned-requires c =
-    ((entry_parts c.requires).1, λ i k. (c.lay_parts-radices.ensures.1 i k).few)
+pub lay_out-telex-requires : goal.lay_out-telex-requires
+lay_out-telex-requires c = (c.requires, omega (arith, (entry_passed c.requires).short), omega arith)
 
-pub put_section-requires : goal.put_section-requires
-put_section-requires c =
-    let laid = c.lay_parts-radices.ensures in
-    ((entry_parts c.requires).1, laid.1, search rules, (count_is c.requires Detoned _ _ _ _ _ _ laid.1 laid.0 c.count_of-detoned.ensures).1, omega (arith, c.list_telex-begun.ensures.1), reached_fits c.list_telex-begun.ensures.0)
+pub lay_out-detoned-requires : goal.lay_out-detoned-requires
+lay_out-detoned-requires c = (c.requires, omega (arith, (entry_passed c.requires).short), omega arith)
 
 pub returns : goal.returns
 returns c =
-    let laid = c.lay_parts-radices.ensures in
-    let counted = count_is c.requires Detoned _ _ _ _ _ _ laid.1 laid.0 c.count_of-detoned.ensures in
-    (reached_as (listing_is c.requires _ counted.0) (section_reached c.requires Detoned _ _ _ _ _ _ laid.1 laid.0 c.count_of-detoned.ensures _ c.list_telex-begun.ensures.0 refl c.put_section.ensures)).written
+    let n = c.lay_out-numeric in
+    let t = c.lay_out-telex in
+    let d = c.lay_out-detoned in
+    let hn : Entry c.args.entry.now n.result.parts = rw n.ensures.0 c.requires in
+    let ht : Entry c.args.entry.now t.result.parts = rw t.ensures.0 c.requires in
+    let hd : Entry c.args.entry.now d.result.parts = rw d.ensures.0 c.requires in
+    let numeric = c.count-numeric_count.ensures.0 in
+    let telex = c.count-telex_count.ensures.0 in
+    let detoned = c.count-detoned_count.ensures.0 in
+    let head =
+    head_reached c.requires c.count_dotted-dots.ensures (numeric ∙ counted Numeric n.result hn n.ensures.1) (telex ∙ counted Telex t.result ht t.ensures.1) (detoned ∙ counted Detoned d.result hd d.ensures.1)
+    c.put_header-header.ensures in
+    let first = section_reached Numeric n.result hn n.ensures.1 _ head c.put_section-first.ensures in
+    let second = section_reached Telex t.result ht t.ensures.1 _ first (rw numeric at c.put_section-second.ensures) in
+    let third = section_reached Detoned d.result hd d.ensures.1 _ second (rw (numeric, telex) at c.put_section.ensures) in
+    rw (← listing_is c.requires) third.written
