@@ -1,5 +1,4 @@
 -- Blocks of lines: each has no more lines than are left, and starts where the one before it ends.
-use native.Mathlib.Nat.{sub-zero}
 use Rattle.std.proofs.Common.{Option, Some, None, IfSome, ◌≡◌, ℕ, ◌+◌, ◌-◌, ◌≤◌, List, [], ◌++◌, length, take, drop, sym, ap, subst, ◌∙◌, arith, length-append, length-drop, length-take-le, take-append-drop, take-add, append-nil}
 use Rattle.std.proofs.Math.Seq.{take-append-add}
 use Rattle.std.proofs.lemmas.List.{take-append-le}
@@ -64,6 +63,6 @@ read_further a b c text buf rest n k inside fits first second =
 
 -- what was read of a reader whose bytes are known, where the buffer has m bytes
 pub read_front : (known : Option (List ℕ)) (text : List ℕ) (n m : ℕ) → length text ≡ m → IfSome known (λ input. take n text ≡ take (length text) input)
-    → IfSome known (λ input. take (n - 0) (drop 0 text) ≡ take m input)
+    → IfSome known (λ input. take n text ≡ take m input)
 read_front None text n m e h = tt
-read_front (Some input) text n m e h = ap (λ (k : ℕ). take k text) (sub-zero n) ∙ h ∙ ap (λ (k : ℕ). take k input) e
+read_front (Some input) text n m e h = h ∙ ap (λ (k : ℕ). take k input) e

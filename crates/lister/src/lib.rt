@@ -40,15 +40,7 @@ impl fmt::Display for Failure {
 fn without_newline(text: &[u8]) -> &[u8]
     ensures { result.now ≡ without_newline text.now }
 {
-    let n = text.len();
-    if n == 0 {
-        return text;
-    }
-    let last = n - 1;
-    if text[last] == 0x0A {
-        return &text[0..last];
-    }
-    text
+    text.strip_suffix(b"\n").unwrap_or(text)
 }
 
 // Reads into `text` until it is full or the reader has no more, and says how many bytes it got.
@@ -59,17 +51,12 @@ fn fill<R: Read>(reader: &mut R, text: &mut [u8]) -> io::Result<usize>
 {
     let mut n: usize = 0;
     // A proved loop has to end, and nothing says that a reader that is interrupted goes on at some time.
-    let mut tries = u64::MAX;
-    while 0 < tries {
-        tries -= 1;
+    for _ in 0..u64::MAX {
         match reader.read(&mut text[n..]) {
             Ok(0) => return Ok(n),
             Ok(more) => n += more,
-            Err(e) => {
-                if e.kind() != ErrorKind::Interrupted {
-                    return Err(e);
-                }
-            }
+            Err(e) if e.kind() == ErrorKind::Interrupted => {}
+            Err(e) => return Err(e),
         }
     }
     Err(io::Error::from(ErrorKind::Interrupted))
@@ -80,7 +67,7 @@ fn read_text<'a, R: Read>(reader: &mut R, text: &'a mut [u8; MOST]) -> io::Resul
     ensures { IfOk result (λ read. IfSome (R.remaining reader.old) (λ input. read.now ≡ take 1026 input)) }
 {
     let n = fill(reader, text)?;
-    Ok(&text[0..n])
+    Ok(&text[..n])
 }
 
 // Writes a block of lines from number `from` on, and returns the number of the next line: the same, where no line is left.
@@ -95,9 +82,7 @@ fn print_block<W: Write>(
     ensures written { OnOk result (Appends (W.contents writer.old) (W.contents writer.new) (together (shown unicode16 entry.now from (length block.old)))) }
 {
     let listed = listing::list(entry, from, block);
-    let len = listed.len;
-    let n = len.0;
-    writer.write_all(&block[0..n])?;
+    writer.write_all(&block[..listed.len.0])?;
     Ok(listed.next)
 }
 
@@ -106,13 +91,14 @@ fn print_listing<W: Write>(writer: &mut W, entry: &[u8]) -> io::Result<()>
     ensures { OnOk result (Appends (W.contents writer.old) (W.contents writer.new) (printed entry.now)) }
 {
     let mut block = [0u8; 65536];
-    let mut from: u64 = 0;
-    let mut next = print_block(writer, entry, from, &mut block)?;
-    while from < next {
-        from = next;
+    let mut next: u64 = 0;
+    loop {
+        let from = next;
         next = print_block(writer, entry, from, &mut block)?;
+        if next == from {
+            return Ok(());
+        }
     }
-    Ok(())
 }
 
 // Reads an entry and writes its listing.

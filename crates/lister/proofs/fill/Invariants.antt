@@ -3,12 +3,9 @@ use Rattle.std.specs.Io.KnownBytes.{Consumes}
 use Rattle.lister.proofs.fill.Given as goal
 
 -- the first n bytes were read, and no others
-abbrev pub invariant-loop-tries : goal.invariant-loop-tries
-invariant-loop-tries g l =
+abbrev pub invariant-loop : goal.invariant-loop
+invariant-loop g l =
     record {
       inside : l.n ≤ length l.text;
       read : Consumes (g.R.Read.remaining l.fn.reader) (g.R.Read.remaining l.reader) (take l.n l.text);
     }
-
-abbrev pub decreases-loop-tries : goal.decreases-loop-tries
-decreases-loop-tries g l = l.tries
