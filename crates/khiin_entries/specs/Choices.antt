@@ -4,7 +4,7 @@ use Rattle.std.specs.Prelude.{◌≡◌, ◌≢◌, Bool, true, false, ◌&&◌,
 use Rattle.std.proofs.Math.Option.{Option, none, some}
 use Rattle.ji.specs.Unicode.{Table, unicode16}
 use Rattle.ji.specs.Utf8.{decode, encode}
-use Rattle.ji.specs.Reply.{Reply, refused, pick_reply, good, check_within}
+use Rattle.ji.specs.Reply.{Reply, refused, pick_reply, good, check_within, check_text}
 use Rattle.ji.specs.Lomaji.Keys.{keys}
 use Rattle.ji.specs.declared.reply.Refusal.TheVariants.{Position}
 use Rattle.ji.specs.declared.lomaji.keys.Form.{Form}
@@ -98,6 +98,10 @@ Radix n = (0 < n) × (n ≤ 4) × (n ≢ 3)
 pub record Within (offsets lengths : List ℕ) (radix used : ℕ) : Type 0 where
   pub few : Radix radix
   pub inside : (j : ℕ) → j < radix → get_or offsets j 0 + get_or lengths j 0 ≤ used
+
+-- a good part, and room for its forms from `at` on: five bytes for each byte of the part, and two more
+abbrev pub Room : List ℕ → List ℕ → ℕ → Type 0
+Room part before at = (check_text unicode16 part ≡ good (points_of part)) × (at + (5 * length part + 2) ≤ length before) × (length before ≤ 65535)
 
 -- what laying out a part from `at` on gives: its choices, behind what the buffer had, in at most five bytes for each of its own and two more
 pub record RowOf (t : Table) (single : Bool) (kind : Kind) (part : List ℕ) (at : ℕ) (before after : List ℕ) (row : Row) : Type 0 where

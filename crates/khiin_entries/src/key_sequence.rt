@@ -3,7 +3,7 @@ ghost use Rattle.std.specs.Prelude.{◌≡◌, true, false, ◌+◌, ◌*◌, �
 ghost use Rattle.std.proofs.Math.Seq.{paste};
 ghost use Rattle.ji.specs.Unicode.{unicode16};
 ghost use Rattle.ji.specs.Reply.{good, bad, check_text};
-ghost use Rattle.khiin_entries.specs.Choices.{points_of, form_bytes, is_toned, part_count, row_one, row_two, RowOf, Entry, laid_out, choices_in, count_in, keying_in, laid_reply};
+ghost use Rattle.khiin_entries.specs.Choices.{points_of, form_bytes, is_toned, part_count, row_one, row_two, RowOf, Room, Entry, laid_out, choices_in, count_in, keying_in, laid_reply};
 ghost use Rattle.khiin_entries.specs.KeySequence.{check_entry, keying_call, keying_reply};
 
 use crate::layout::Layout;
@@ -26,7 +26,7 @@ fn count_parts(entry: &[u8]) -> Option<usize>
     ensures { result ≡ part_count entry.now }
 {
     let mut parts: usize = 0;
-    for part in entry.split(|b| *b == 0x20) {
+    for part in entry.split(|b| *b == b' ') {
         if parts == 16 || 256 < part.len() {
             return None;
         }
@@ -48,10 +48,8 @@ fn put_form(part: &[u8], form: Form, kind: Kind, forms: &mut [u8], at: usize) ->
     requires { (check_text unicode16 part.now ≡ good (points_of part.now)) × (at + length (form_bytes unicode16 form kind part.now) ≤ length forms.old) }
     ensures { (result ≡ at + length (form_bytes unicode16 form kind part.now)) × (forms.new ≡ paste forms.old at (form_bytes unicode16 form kind part.now) (length (form_bytes unicode16 form kind part.now))) }
 {
-    match keys::keys(part, form, kind, &mut forms[at..]) {
-        Ok(len) => at + len.0,
-        Err(_) => at,
-    }
+    let written = keys::keys(part, form, kind, &mut forms[at..]).unwrap();
+    at + written.0
 }
 
 // The choices of a part: where each stands, how long it is, how many there are, and the place behind them.
@@ -102,7 +100,7 @@ fn is_toned(kind: Kind) -> bool
 
 // The forms of a part that is the only one.
 fn lay_single(part: &[u8], kind: Kind, forms: &mut [u8], at: usize) -> Row
-    requires { (check_text unicode16 part.now ≡ good (points_of part.now)) × (at + (5 * length part.now + 2) ≤ length forms.old) × (length forms.old ≤ 65535) }
+    requires { Room part.now forms.old at }
     ensures { RowOf unicode16 true kind part.now at forms.old forms.new result }
 {
     let mid = put_form(part, Form::Plain, kind, forms, at);
@@ -115,7 +113,7 @@ fn lay_single(part: &[u8], kind: Kind, forms: &mut [u8], at: usize) -> Row
 
 // The forms of a part of several.
 fn lay_part(part: &[u8], kind: Kind, forms: &mut [u8], at: usize) -> Row
-    requires { (check_text unicode16 part.now ≡ good (points_of part.now)) × (at + (5 * length part.now + 2) ≤ length forms.old) × (length forms.old ≤ 65535) }
+    requires { Room part.now forms.old at }
     ensures { RowOf unicode16 false kind part.now at forms.old forms.new result }
 {
     let mid = put_form(part, Form::Plain, kind, forms, at);
@@ -127,7 +125,7 @@ fn lay_part(part: &[u8], kind: Kind, forms: &mut [u8], at: usize) -> Row
 }
 
 fn lay_row(part: &[u8], single: bool, kind: Kind, forms: &mut [u8], at: usize) -> Row
-    requires { (check_text unicode16 part.now ≡ good (points_of part.now)) × (at + (5 * length part.now + 2) ≤ length forms.old) × (length forms.old ≤ 65535) }
+    requires { Room part.now forms.old at }
     ensures { RowOf unicode16 single kind part.now at forms.old forms.new result }
 {
     if single {
@@ -145,7 +143,7 @@ pub(crate) fn lay_out<'a>(entry: &[u8], parts: usize, kind: Kind, forms: &'a mut
     let mut lengths = [[0u16; 4]; 16];
     let mut radices = [0u8; 16];
     let mut used: usize = 0;
-    for (i, part) in entry.split(|b| *b == 0x20).enumerate() {
+    for (i, part) in entry.split(|b| *b == b' ').enumerate() {
         let row = lay_row(part, parts == 1, kind, forms, used);
         // The arrays go through variables, for so the borrow checker covers their stores.
         let (starts, sizes) = (row.offsets, row.lengths);

@@ -29,7 +29,7 @@ use Rattle.khiin_entries.specs.KeySequence.{pick_texts, holds_dot, alone, forms,
 use Rattle.ji.specs.Lomaji.Dot.{dot_in}
 use Rattle.khiin_entries.specs.Choices.{points_of, form_bytes, is_toned, choices_of}
 use Rattle.khiin_entries.proofs.key_sequence.Splitting.{dot_bytes}
-use Rattle.std.specs.Prelude.{Result, Ok, Err}
+use Rattle.std.specs.Prelude.{Result, Ok, Err, IsOk}
 
 -- ── what the call gives
 refusal_some : (why : Refusal) → 0 < refusal_number why
@@ -59,8 +59,9 @@ module _ (form : Form) (kind : Kind) (part buffer : List ℕ) (h : check_text un
     pub call_buffer : (n : ByteLen) → answer ≡ Ok n → after ≡ over (form_bytes unicode16 form kind part) buffer
     call_buffer n e = ap (λ (r : Reply). r.buffer) (told (Ok n) e)
 
-    pub call_answers : (why : Refusal) → answer ≡ Err why → ⊥
-    call_answers why e = omega (arith, refusal_some why, ap (λ (r : Reply). r.code) (told (Err why) e))
+    pub call_answers : (x : Result ByteLen Refusal) → answer ≡ x → IsOk x
+    call_answers (Ok n) e = refl
+    call_answers (Err why) e = absurd (omega (arith, refusal_some why, ap (λ (r : Reply). r.code) (told (Err why) e)))
 
 -- ── what `==` says of two texts
 pub same_pointwise : (a b : List ℕ) → pointwise eqb a b ≡ same a b

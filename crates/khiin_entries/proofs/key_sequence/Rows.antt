@@ -7,10 +7,9 @@ use native.Mathlib.Omega.{arith}
 use lib.ListN.{length, take, drop, get_or, length-append}
 use lib.Seq.{paste, take-take}
 use Rattle.ji.specs.Unicode.{unicode16}
-use Rattle.ji.specs.Reply.{good, check_text}
 use Rattle.ji.specs.declared.lomaji.keys.Form.TheVariants.{Plain, Oo}
 use Rattle.ji.specs.declared.lomaji.keys.Kind.{Kind}
-use Rattle.khiin_entries.specs.Choices.{points_of, form_bytes, choices_of, row_one, row_two, RowOf, Within}
+use Rattle.khiin_entries.specs.Choices.{form_bytes, choices_of, row_one, row_two, RowOf, Room, Within}
 use Rattle.khiin_entries.proofs.key_sequence.Writing.{Stands, pasted_length, put_stands, put_front, put_keeps, stands_front}
 use Rattle.khiin_entries.proofs.key_sequence.Forms.{form_bytes_law}
 use Rattle.khiin_entries.proofs.key_sequence.Combining.{radix_one, radix_two, radix_four}
@@ -101,10 +100,7 @@ module _ (single : Bool) (kind : Kind) (part before after : List ℕ) (at : ℕ)
           below (suc (suc (suc zero))) h = omega arith
           below (suc (suc (suc (suc j)))) h = absurd (omega arith)
 
--- ── what the calls that put forms into the buffer leave there. It has room for five bytes for each byte of the part, and two more
-abbrev pub Room : List ℕ → List ℕ → ℕ → Type 0
-Room part before at = (check_text unicode16 part ≡ good (points_of part)) × (at + (5 * length part + 2) ≤ length before) × (length before ≤ 65535)
-
+-- ── what the calls that put forms into the buffer leave there
 module _ (kind : Kind) (part before : List ℕ) (at : ℕ) where
   abbrev p : List ℕ
   p = form_bytes unicode16 Plain kind part

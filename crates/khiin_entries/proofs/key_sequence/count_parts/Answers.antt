@@ -10,7 +10,7 @@ use Rattle.khiin_entries.specs.KeySequence.{split}
 use Rattle.khiin_entries.specs.Choices.{all_short, part_count}
 use Rattle.khiin_entries.proofs.key_sequence.Splitting.{split_cut, is_space}
 use Rattle.khiin_entries.proofs.key_sequence.count_parts.Goals as goal
-use Rattle.khiin_entries.proofs.key_sequence.count_parts.Goals.{In-Some, then-parts-eq16-via-then-parts-eq16, then-parts-eq16-via-else-parts-eq16+then-part-gt256}
+use Rattle.khiin_entries.proofs.key_sequence.count_parts.Goals.{In-Some, In-None, then-parts-eq16-via-then-parts-eq16, then-parts-eq16-via-else-parts-eq16+then-part-gt256}
 
 module _ (s : List ℕ) where
   count_as : (b : Bool) → (leb (length (split s)) 16 && all_short (split s)) ≡ b → cond b (Some (length (split s))) None ≡ part_count s
@@ -62,8 +62,12 @@ loop-part-preserved c =
       short = counted_next _ _ was.short t.0 _ t.1 c.if-part-gt256.false;
     }
 
+-- every part had its turn
+all : (t : In-None) → t.loop-part.parts ≡ length (split t.args.entry.now)
+all t =
+    t.loop-part.invariant.passed
+    ∙ (YieldsList-end (YieldsList-from_slice_split _ is_space t.args.entry.now (cc) (cc) (cc) (λ x b q k. search (rules, tests))) t.loop-part.yielded _ t.loop-part.yielded_by _ _ t.in-None.is t.next.ensures.steps).1
+    ∙ ap length (split_cut t.args.entry.now)
+
 pub returns : goal.returns
-returns c =
-    let was = c.loop-part.invariant in
-    let all = rw (← was.passed, split_cut c.args.entry.now) at (YieldsList-end (YieldsList-from_slice_split _ is_space c.args.entry.now (cc) (cc) (cc) (λ x b q k. search (rules, tests))) c.loop-part.yielded _ c.loop-part.yielded_by _ _ c.in-None.is c.next.ensures.steps).1 in
-    counted_all c.args.entry.now _ was.short was.few all
+returns c = let was = c.loop-part.invariant in counted_all c.args.entry.now _ was.short was.few (all (goal.at.returns c).In-None)
