@@ -3,7 +3,7 @@ use mathlib.Core.Path.{◌≡◌, refl, sym, ap, ap₂, ◌∙◌}
 use mathlib.Core.List.{List, [], ◌∷◌, ◌++◌}
 use mathlib.Core.Logic.{⊎_elim}
 use Prim.Native.Nat.{ℕ, zero, suc, ◌+◌, ◌-◌, ◌*◌, ◌/◌, ◌%◌, ◌^◌, ◌≤◌, ◌<◌}
-use native.Mathlib.Nat.{mod-lt, mul-le-mul, mul_comm, pow-succ', suc-mul, eq-or-lt_of_le, le_trans, pow-le-pow_right}
+use native.Mathlib.Nat.{mod-lt, mul-le-mul, mul_comm, pow-succ', eq-or-lt_of_le, le_trans, pow-le-pow_right}
 use native.Mathlib.Omega.{arith}
 use lib.ListN.{length, drop, get_or, length-append, length-drop, get_or-append}
 use lib.Seq.{length-take-le, get_or_at}
@@ -51,10 +51,7 @@ count_fits radices n k h = le_trans (count_most radices n h) (pow-le-pow_right f
 -- ── the keying
 -- the digit of a part names one of its choices
 pub digit_below : (position radix value : ℕ) → Radix radix → value ≡ position % radix → value < radix
-digit_below position radix value h e = rw e (mod-lt position (h.0))
-
-pub digit_small : (position radix value : ℕ) → Radix radix → value ≡ position % radix → value < 4
-digit_small position radix value h e = omega (arith, digit_below position radix value h e, h.1)
+digit_below position radix value h e = rw e (mod-lt position h.0)
 
 -- one part less: the digit of the last part, and what is left of the position
 module _ (lengths : List (List ℕ)) (radices : List ℕ) where
@@ -72,13 +69,6 @@ module _ (lengths : List (List ℕ)) (radices : List ℕ) where
 module _ (offsets lengths : List (List ℕ)) (radices : List ℕ) (used : ℕ) where
   pub digit_inside : (n i position value : ℕ) → Laid offsets lengths radices n used → i < n → value ≡ position % get_or radices i 0 → get_or (get_or offsets i []) value 0 + get_or (get_or lengths i []) value 0 ≤ used
   digit_inside n i position value h k e = (h i k).inside value (digit_below position _ value (h i k).few e)
-
-  pub length_most : (n position : ℕ) → Laid offsets lengths radices n used → length_in lengths radices n position ≤ n * used
-  unfolding length_in
-  length_most zero position h = omega arith
-  length_most (suc n) position h =
-      let r = get_or radices n 0 in
-      omega (arith, length_most n (position / r) (λ i k. h i (omega arith)), (h n (omega arith)).inside (position % r) (mod-lt position ((h n (omega arith)).few.0)), suc-mul n used)
 
   module _ (forms : List ℕ) where
     pub keying_turn : (i position value rest : ℕ) → 0 < i → value ≡ position % get_or radices (i - 1) 0 → rest ≡ position / get_or radices (i - 1) 0 → keying_in forms offsets lengths radices i position ≡ keying_in forms offsets lengths radices (i - 1) rest ++ choice_at forms (get_or offsets (i - 1) []) (get_or lengths (i - 1) []) value

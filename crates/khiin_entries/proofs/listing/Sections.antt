@@ -23,7 +23,7 @@ use Rattle.khiin_entries.proofs.key_sequence.Laying.{length_up_to, up_to_at}
 use Rattle.khiin_entries.proofs.key_sequence.Filling.{entry_passed, entry_parts}
 use Rattle.khiin_entries.proofs.key_sequence.Calling.{checked_good, laid_count, laid_keying}
 use Rattle.khiin_entries.proofs.listing.Fitting.{fit_most, going_count}
-use Rattle.khiin_entries.proofs.listing.Putting.{put_length, following}
+use Rattle.khiin_entries.proofs.listing.Putting.{following}
 
 -- ── the lines of a kind
 pub lines_count : (kind : Kind) (at : ℕ) (ks : List (List ℕ)) → length (keying_lines kind at ks) ≡ length ks
@@ -75,9 +75,6 @@ module _ {entry : List ℕ} (kind : Kind) (layout : Layout) (h : Entry entry lay
       ∙ sym (lines_at kind 0 ks i (omega (arith, counted))))
 
 -- ── one section behind another
-pub shown_fits : {ls : List (List ℕ)} {from at : ℕ} {before after : List ℕ} {next end : ℕ} → Shown ls from at before after next end → end ≤ length after
-shown_fits h = omega (arith, h.text.fits, put_length h.text)
-
 pub shown_most : {ls : List (List ℕ)} {from at : ℕ} {before after : List ℕ} {next end : ℕ} → Shown ls from at before after next end → next ≤ from + (length ls - from)
 shown_most {ls} {from} {at} {before} h = omega (arith, h.count, fit_most (drop from ls) (length before - at), length-drop from ls)
 
@@ -134,9 +131,6 @@ module _ {entry : List ℕ} {parts : ℕ} (h : Entry entry parts) where
 pub head_reached : {entry : List ℕ} {parts dots numeric telex detoned : ℕ} (h : Entry entry parts) → dots ≡ dotted_in (split entry) → numeric ≡ count_of Numeric entry → telex ≡ count_of Telex entry → detoned ≡ count_of Detoned entry
     → {from : ℕ} {before after : List ℕ} {next end : ℕ} → Shown (header_line (parts ∷ dots ∷ numeric ∷ telex ∷ detoned ∷ []) ∷ []) from 0 before after next end → Reached (header_line (counts h) ∷ []) from before after next end 1
 head_reached h e n t d s = record { written = rw (← e, ← n, ← t, ← d) s; count = refl }
-
-pub reached_fits : {ls : List (List ℕ)} {from : ℕ} {before after : List ℕ} {next end lines : ℕ} → Reached ls from before after next end lines → end ≤ length after
-reached_fits r = shown_fits r.written
 
 -- ── an entry that is refused
 pub listing_refused : (entry : List ℕ) (why : Refusal) → check_entry unicode16 entry ≡ bad why → listing unicode16 entry ≡ refusal_line why ∷ []
