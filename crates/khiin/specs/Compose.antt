@@ -1,14 +1,15 @@
 -- What the parts of `compose` hand on to each other.
-use Rattle.std.specs.Prelude.{◌≡◌, Bool, true, false, not, ◌&&◌, ◌||◌, List, [], ◌∷◌, ◌++◌, ℕ, zero, suc, ◌+◌, ◌-◌, ◌≤◌, ◌<◌, ltb, eqb, length, take, drop, get_or}
+use Rattle.std.specs.Prelude.{◌≡◌, Bool, true, false, not, ◌&&◌, ◌||◌, List, [], ◌∷◌, ◌++◌, ℕ, ◌+◌, ◌-◌, ◌≤◌, ◌<◌, ltb, eqb, length, take, drop, get_or}
 use Rattle.std.proofs.Math.Option.{none, some}
 use Rattle.ji.specs.Unicode.{unicode16, listed, composite}
-use Rattle.ji.specs.Text.{points, marked, point, lower, begins, all_ascii}
+use Rattle.ji.specs.Text.{points, point, lower, begins, all_ascii}
 use Rattle.ji.specs.Reply.{Reply, text_reply}
 use Rattle.ji.specs.Lomaji.Keys.{respell}
-use Rattle.ji.specs.declared.reply.Refusal.TheVariants.{NoRoom}
 use Rattle.khiin.specs.Syllable.{vowel_rules, o_rules, ends_nasal, nasalised, moved}
 use Rattle.khiin.specs.declared.syllable.compose.Settled.{Settled}
-use Rattle.std.specs.Prelude.{Result, Ok, Err, Some, Option, None}
+use Rattle.khiin.specs.declared.syllable.marking.Joined.{Joined}
+use Rattle.khiin.specs.declared.syllable.marking.Joined.TheVariants.{Composite, Apart, Unknown}
+use Rattle.std.specs.Prelude.{Result, Some, Option, None, ⊤}
 use Rattle.ji.specs.declared.unicode.ByteLen.{ByteLen}
 use Rattle.ji.specs.declared.reply.Refusal.{Refusal}
 
@@ -16,11 +17,6 @@ use Rattle.ji.specs.declared.reply.Refusal.{Refusal}
 pub record Front (buffer : List ℕ) (n : ℕ) (s : List ℕ) : Type 0 where
   pub is : take n buffer ≡ s
   pub size : length s ≡ n
-
--- the answer that a number stands for: one more than the length of the text that was written, or 0 where there was no room
-abbrev pub answer_of : ℕ → Result ByteLen Refusal
-answer_of zero = Err NoRoom
-answer_of (suc n) = Ok (record { 0 = n })
 
 -- a mark as the code has it
 abbrev pub mark_text : Option ℕ → List ℕ
@@ -58,10 +54,10 @@ pub record SettledAs (buffer s : List ℕ) (r : Settled) : Type 0 where
   pub front : Front buffer r.len s
   pub lone : r.lone ≡ true → NoSignBefore s
 
--- the O rules put U+0358 behind the first `at` code points of s, and nowhere where `at` is 0
-pub record DotAt (at : ℕ) (s : List ℕ) : Type 0 where
-  pub nowhere : at ≡ 0 → respell o_rules s ≡ s
-  pub behind : 0 < at → (at ≤ length s) × (respell o_rules s ≡ take at s ++ (0x0358 ∷ drop at s))
+-- where the O rules put U+0358, if anywhere: behind the first so many code points of s
+abbrev pub DotAt : Option ℕ → List ℕ → Type 0
+DotAt None s = respell o_rules s ≡ s
+DotAt (Some at) s = (at ≤ length s) × (respell o_rules s ≡ take at s ++ (0x0358 ∷ drop at s))
 
 -- nowhere in a text does one of the second letters stand behind one of the first; `before` stands before the text
 unfoldable pub apart_from : List ℕ → List ℕ → ℕ → List ℕ → Bool
@@ -74,26 +70,10 @@ pub record Plain (s : List ℕ) : Type 0 where
   pub apart : apart_from (points "oOeE") (points "oOuU") 0 s ≡ true
   pub oral : ends_nasal s ≡ false
 
--- what the quick way says by its number: 0 that it wrote nothing, any other the answer
-abbrev pub QuickAs : ℕ → List ℕ → List ℕ → Reply → Type 0
-QuickAs r before after reply = (r ≡ 0 → after ≡ before) × (0 < r → text_reply (answer_of r) after ≡ reply)
-
--- the vowel rules that begin with o, and those that begin with e, for a second vowel in both cases
-abbrev pub o_pairs : ℕ → ℕ → List (List ℕ × List ℕ)
-o_pairs small capital =
-    (points "o" ++ (small ∷ []), marked "o" 0x0358)
-    ∷ (points "o" ++ (capital ∷ []), marked "o" 0x0358)
-    ∷ (points "O" ++ (small ∷ []), marked "O" 0x0358)
-    ∷ (points "O" ++ (capital ∷ []), marked "O" 0x0358)
-    ∷ []
-
-abbrev pub e_pairs : ℕ → ℕ → List (List ℕ × List ℕ)
-e_pairs small capital =
-    (points "e" ++ (small ∷ []), small ∷ 0x0324 ∷ [])
-    ∷ (points "E" ++ (small ∷ []), small ∷ 0x0324 ∷ [])
-    ∷ (points "e" ++ (capital ∷ []), capital ∷ 0x0324 ∷ [])
-    ∷ (points "E" ++ (capital ∷ []), capital ∷ 0x0324 ∷ [])
-    ∷ []
+-- what the quick way says: None that it wrote nothing, any other the answer
+abbrev pub QuickAs : Option (Result ByteLen Refusal) → List ℕ → List ℕ → Reply → Type 0
+QuickAs None before after reply = after ≡ before
+QuickAs (Some r) before after reply = text_reply r after ≡ reply
 
 -- a text begins with the pattern of one of some rules
 abbrev pub begins_any : List (List ℕ × List ℕ) → List ℕ → Bool
@@ -122,10 +102,27 @@ settled_from before (x ∷ s) = stays_behind before x && settled_from x s
 abbrev pub is_mark : ℕ → Bool
 is_mark m = listed (0x0300 ∷ 0x0301 ∷ 0x0302 ∷ 0x0303 ∷ 0x0304 ∷ 0x0306 ∷ 0x030D ∷ []) m
 
--- what r says of the ASCII letter x and a tone mark behind it: 0 nothing, 1 that they have no composite, else what it is, one of two bytes
-pub record Joined (x mark r : ℕ) : Type 0 where
-  pub letter : 0 < r → x < 0x80
-  pub tone : 0 < r → is_mark mark ≡ true
-  pub apart : r ≡ 1 → composite unicode16 x mark ≡ none
-  pub one : 1 < r → composite unicode16 x mark ≡ some r
-  pub small : 1 < r → (0x80 ≤ r) × (r < 0x0300)
+-- c is the composite of the ASCII letter x and a tone mark behind it, and one of two bytes
+pub record MakeOne (x mark c : ℕ) : Type 0 where
+  pub letter : x < 0x80
+  pub tone : is_mark mark ≡ true
+  pub one : composite unicode16 x mark ≡ some c
+  pub small : (0x80 ≤ c) × (c < 0x0300)
+
+-- the ASCII letter x and a tone mark behind it have no composite
+pub record MakeNone (x mark : ℕ) : Type 0 where
+  pub letter : x < 0x80
+  pub tone : is_mark mark ≡ true
+  pub apart : composite unicode16 x mark ≡ none
+
+-- what is said of a letter and a mark behind it
+abbrev pub JoinedAs : ℕ → ℕ → Joined → Type 0
+JoinedAs x mark (Composite c) = MakeOne x mark c
+JoinedAs x mark Apart = MakeNone x mark
+JoinedAs x mark Unknown = ⊤
+
+-- the same of the letter at k of a text, and besides that the text needs no normalising, where anything is said
+abbrev pub JoinedIn : List ℕ → ℕ → ℕ → Joined → Type 0
+JoinedIn s k mark (Composite c) = (settled_from 0 s ≡ true) × MakeOne (get_or s k 0) mark c
+JoinedIn s k mark Apart = (settled_from 0 s ≡ true) × MakeNone (get_or s k 0) mark
+JoinedIn s k mark Unknown = ⊤

@@ -10,7 +10,6 @@ ghost use Rattle.khiin.specs.Converter.{keys_in, key_to_tone, tone_to_key, is_se
 ghost use Rattle.khiin.specs.Telex.{edit_by, edit_at, edit_of, composed_of, edited, step_of, RestIn};
 
 use crate::syllable::compose::compose_points;
-use crate::syllable::marking::answer;
 use crate::syllable::plain::compose_plain;
 use ji::lomaji::khin::Khin;
 use ji::lomaji::strip;
@@ -410,15 +409,11 @@ fn compose_step(
     ensures { text_reply result out.new ≡ placed 0 (encode (composed_of unicode16 k key tone (take n points.old))) out.old }
 {
     points[n] = key;
-    let m = n + 1;
-    let body = typed(k, key, tone, &points[0..m], n, grown_len(key, n));
-    let count = body.len;
-    let spoken = body.tone;
-    let size = compose_plain(raw, &raw[0..count], spoken, Khin::No, out);
-    if 0 < size {
-        return answer(size);
+    let body = typed(k, key, tone, &points[..n + 1], n, grown_len(key, n));
+    if let Some(answer) = compose_plain(raw, &raw[..body.len], body.tone, Khin::No, out) {
+        return answer;
     }
-    answer(compose_points(raw, points, count, spoken, Khin::No, out))
+    compose_points(raw, points, body.len, body.tone, Khin::No, out)
 }
 
 // Reads the stripped text, the first `n` of `bytes`, into `points`, and composes it anew.

@@ -8,8 +8,9 @@ use native.Mathlib.Omega.{arith}
 use native.Mathlib.Decide.{ℕ_discrete}
 use borrow.Author.Tests.{ne_eqb}
 use lib.Dec.{eqb}
-use lib.ListN.{length, take, drop, get_or, drop_of_length-le}
-use lib.Seq.{length-take-le, take-take}
+use native.Mathlib.Numerals.{add-one}
+use lib.ListN.{length, take, drop, get_or, set, drop_of_length-le}
+use lib.Seq.{length-take-le, take-take, take-suc-set}
 use Rattle.ji.specs.Unicode.{Table, unicode16, member, members, pick_text, pick_number, same, listed}
 use Rattle.ji.specs.Text.{points, marked, point, within, lower, begins, replace_all, but_last, last, all_ascii}
 use Rattle.ji.specs.Utf8.{decode, encode, last_start, last_point}
@@ -443,6 +444,10 @@ but_two s =
     let less : n - 1 ≤ n = omega arith in
     let two : n - 1 ≡ length s - 2 = omega arith in
     ap (λ (l : ℕ). take (l - 1) (take n s)) (length-take-le n s few) ∙ take-take (n - 1) n s less ∙ ap (λ (m : ℕ). take m s) two
+
+-- the text at the front of a buffer, and a key stored behind it
+pub key_stored : (bytes : List ℕ) (n key : ℕ) → n < length bytes → take (n + 1) (set bytes n key) ≡ take n bytes ++ (key ∷ [])
+key_stored bytes n key h = ap (λ (k : ℕ). take k (set bytes n key)) (add-one n) ∙ take-suc-set bytes n key h
 
 -- the bytes of a text and of an ASCII key behind it
 pub key_behind : (rest : List ℕ) (key : ℕ) → key ≤ 0x7F → encode rest ++ (key ∷ []) ≡ encode (rest ++ (key ∷ []))

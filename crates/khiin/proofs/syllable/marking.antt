@@ -2,4 +2,3 @@ pub mod Facts
 pub mod Settled
 pub mod Marked
 pub mod Letters
-pub mod Sizes

@@ -1,8 +1,7 @@
-use mathlib.Core.Path.{◌≡◌, sym, ap, ap₂, ◌∙◌, subst}
+use mathlib.Core.Path.{◌≡◌, refl, sym, ap, ◌∙◌, subst}
 use mathlib.Core.Bool.{true}
 use mathlib.Core.List.{List, [], ◌∷◌, ◌++◌}
-use Prim.Native.Nat.{ℕ, ◌+◌, ◌-◌, ◌≤◌, ◌<◌}
-use native.Mathlib.Nat.{sub-zero}
+use Prim.Native.Nat.{ℕ, ◌+◌, ◌≤◌, ◌<◌}
 use borrow.Author.Tests.{eqb-true, eqb-false}
 use lib.Dec.{eqb}
 use lib.ListN.{length, take, set, length-set, length-append}
@@ -10,35 +9,32 @@ use lib.Seq.{length-take-le, take-take, take-set-le, take_all}
 use Rattle.ji.specs.Unicode.{unicode16}
 use Rattle.ji.specs.Utf8.{encode}
 use Rattle.ji.specs.Text.{all_ascii}
-use Rattle.ji.specs.Reply.{Reply, placed, text_reply}
+use Rattle.ji.specs.Reply.{Reply, placed}
 use Rattle.ji.specs.declared.tone.Tone.{Tone}
 use Rattle.ji.specs.declared.lomaji.khin.Khin.TheVariants.{No}
 use Rattle.ji.proofs.Bools.{either, text_yes, text_no}
-use Rattle.ji.proofs.Writing.{stored_key}
 use Rattle.ji.proofs.unicode.Bytes.{fewer}
 use Rattle.khiin.specs.Syllable.{compose}
 use Rattle.khiin.specs.Converter.{grown}
 use Rattle.khiin.specs.Telex.{composed_of}
 use Rattle.khiin.specs.declared.converter.ToneKeys.{ToneKeys}
 use Rattle.khiin.proofs.syllable.plain.Laws.{front_ascii}
+use Rattle.khiin.proofs.converter.Laws.{key_stored}
 use native.Mathlib.Omega.{arith}
 use Rattle.khiin.proofs.converter.compose_step.Goals as goal
-use Rattle.std.specs.Prelude.{Result}
-use Rattle.ji.specs.declared.unicode.ByteLen.{ByteLen}
-use Rattle.ji.specs.declared.reply.Refusal.{Refusal}
 
 module _ (p : List ℕ) (n key : ℕ) (h : n + 2 < length p) where
   abbrev stored : List ℕ
   stored = set p n key
 
   abbrev whole : List ℕ
-  whole = take (n + 1 - 0) stored
+  whole = take (n + 1) stored
 
   size : length whole ≡ n + 1
-  size = length-take-le (n + 1 - 0) stored (omega (arith, length-set p n key)) ∙ sub-zero (n + 1)
+  size = length-take-le (n + 1) stored (omega (arith, length-set p n key))
 
   front_same : take n whole ≡ take n p
-  front_same = take-take n (n + 1 - 0) stored (omega arith) ∙ take-set-le n p n key (omega arith)
+  front_same = take-take n (n + 1) stored (omega arith) ∙ take-set-le n p n key (omega arith)
 
   grown_same : (len : ℕ) → (key ≡ 0x20 → len ≡ n) → ((key ≡ 0x20 → ⊥) → len ≡ n + 1) → grown key (take n whole) ≡ take len whole
   grown_same len f g =
@@ -47,11 +43,11 @@ module _ (p : List ℕ) (n key : ℕ) (h : n + 2 < length p) where
       (λ e.
       text_no (eqb key 0x20) _ _ e
       ∙ ap (λ (l : List ℕ). l ++ (key ∷ [])) front_same
-      ∙ sym (stored_key p n key (omega arith))
+      ∙ sym (key_stored p n key (omega arith))
       ∙ sym (ap (λ (m : ℕ). take m whole) (g (eqb-false key 0x20 e)) ∙ take_all (n + 1) whole (omega (arith, size))))
 
   part_same : (c : ℕ) → c ≤ length whole → take c whole ≡ take c stored
-  part_same c l = take-take c (n + 1 - 0) stored (omega (arith, size))
+  part_same c l = take-take c (n + 1) stored (omega (arith, size))
 
   step_text : (k : ToneKeys) (tone : Tone) (len c : ℕ) (o : Tone) → (key ≡ 0x20 → len ≡ n) → ((key ≡ 0x20 → ⊥) → len ≡ n + 1) → c ≤ length whole
       → (grown key (take n whole) ≡ take len whole → composed_of unicode16 k key tone (take n whole) ≡ compose unicode16 (take n whole ++ (key ∷ [])) (take c whole) o No)
@@ -73,16 +69,13 @@ module _ (p : List ℕ) (n key : ℕ) (h : n + 2 < length p) where
     raw_long : n + 1 ≤ length raw
     raw_long = omega (arith, ap length is, fewer typed_text, typed_long)
 
-    body_same : (c : ℕ) → c ≤ length whole → all_ascii (take (c - 0) raw) ≡ true → take (c - 0) raw ≡ take c stored
+    body_same : (c : ℕ) → c ≤ length whole → all_ascii (take c raw) ≡ true → take c raw ≡ take c stored
     body_same c l ascii =
-        let e : take (c - 0) raw ≡ take c (encode typed_text) = ap₂ (λ (m : ℕ) (u : List ℕ). take m u) (sub-zero c) is in
+        let e : take c raw ≡ take c (encode typed_text) = ap (take c) is in
         e
         ∙ front_ascii typed_text c (omega (arith, l, size, typed_long)) (subst (λ (u : List ℕ). all_ascii u ≡ true) e ascii)
-        ∙ ap (take c) (sym (stored_key p n key (omega arith)))
+        ∙ ap (take c) (sym (key_stored p n key (omega arith)))
         ∙ part_same c l
-
-pub slice_bounds-typed-end : goal.slice_bounds-typed-end
-slice_bounds-typed-end c = omega (arith, c.requires.1, length-set c.args.points.now c.args.n c.args.key)
 
 pub typed-body-requires : goal.typed-body-requires
 typed-body-requires c =
@@ -92,17 +85,18 @@ typed-body-requires c =
 pub slice_bounds-compose_plain-end : goal.slice_bounds-compose_plain-end
 slice_bounds-compose_plain-end c =
     let s = size c.args.points.now c.args.n c.args.key c.requires.1 in
-    omega (arith, c.typed-body.ensures.0, s, raw_long c.args.points.now c.args.n c.args.key c.requires.1 c.args.raw.now c.requires.2)
+    let more = raw_long c.args.points.now c.args.n c.args.key c.requires.1 c.args.raw.now c.requires.2 in
+    sym (length-take-le c.typed-body.result.len c.args.raw.now (omega (arith, c.typed-body.ensures.0, s, more)))
 
-pub returns-then-size-gt0 : goal.returns-then-size-gt0
-returns-then-size-gt0 c =
-    let here : List ℕ → Reply = λ l. placed 0 (encode l) c.args.out.now in
-    ap (λ (r : Result ByteLen Refusal). text_reply r c.compose_plain-size.new.out) c.answer.ensures
-    ∙ (c.compose_plain-size.ensures.1 _ c.requires.2).1 c.if-size-gt0.true
-    ∙ ap (λ (b : List ℕ). here (compose unicode16 (take c.args.n c.args.points.now ++ (c.args.key ∷ [])) b c.typed-body.result.tone No))
-    (body_same c.args.points.now c.args.n c.args.key c.requires.1 c.args.raw.now c.requires.2 c.typed-body.result.len c.typed-body.ensures.0 (c.compose_plain-size.ensures.0 c.if-size-gt0.true))
+pub returns-in-Some : goal.returns-in-Some
+returns-in-Some c =
+    let a = c.args in
+    let here : List ℕ → Reply = λ l. placed 0 (encode l) a.out.now in
+    c.in-Some.ensures.1 _ c.requires.2
+    ∙ ap (λ (b : List ℕ). here (compose unicode16 (take a.n a.points.now ++ (a.key ∷ [])) b c.typed-body.result.tone No))
+    (body_same a.points.now a.n a.key c.requires.1 a.raw.now c.requires.2 c.typed-body.result.len c.typed-body.ensures.0 (c.in-Some.ensures.0 refl))
     ∙ ap here
-    (step_text c.args.points.now c.args.n c.args.key c.requires.1 c.args.k c.args.tone _ _ _ c.grown_len.ensures.0 c.grown_len.ensures.1 c.typed-body.ensures.0 c.typed-body.ensures.1)
+    (step_text a.points.now a.n a.key c.requires.1 a.k a.tone _ _ _ c.grown_len.ensures.0 c.grown_len.ensures.1 c.typed-body.ensures.0 c.typed-body.ensures.1)
 
 pub compose_points-requires : goal.compose_points-requires
 compose_points-requires c =
@@ -111,9 +105,9 @@ compose_points-requires c =
 
 pub returns : goal.returns
 returns c =
-    let text = compose unicode16 (take c.args.n c.args.points.now ++ (c.args.key ∷ [])) (take c.typed-body.result.len (stored c.args.points.now c.args.n c.args.key c.requires.1)) c.typed-body.result.tone No in
-    ap (λ (r : Result ByteLen Refusal). text_reply r c.compose_points.new.out) c.answer-2.ensures
-    ∙ c.compose_points.ensures _ c.requires.2
-    ∙ ap (placed 0 (encode text)) ((c.compose_plain-size.ensures.1 _ c.requires.2).0 (omega (arith, c.if-size-gt0.false)))
-    ∙ ap (λ (l : List ℕ). placed 0 (encode l) c.args.out.now)
-    (step_text c.args.points.now c.args.n c.args.key c.requires.1 c.args.k c.args.tone _ _ _ c.grown_len.ensures.0 c.grown_len.ensures.1 c.typed-body.ensures.0 c.typed-body.ensures.1)
+    let a = c.args in
+    let text = compose unicode16 (take a.n a.points.now ++ (a.key ∷ [])) (take c.typed-body.result.len (stored a.points.now a.n a.key c.requires.1)) c.typed-body.result.tone No in
+    c.compose_points.ensures _ c.requires.2
+    ∙ ap (placed 0 (encode text)) (c.in_default.ensures.1 _ c.requires.2)
+    ∙ ap (λ (l : List ℕ). placed 0 (encode l) a.out.now)
+    (step_text a.points.now a.n a.key c.requires.1 a.k a.tone _ _ _ c.grown_len.ensures.0 c.grown_len.ensures.1 c.typed-body.ensures.0 c.typed-body.ensures.1)

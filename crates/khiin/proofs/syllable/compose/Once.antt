@@ -16,6 +16,7 @@ use Rattle.ji.specs.Lomaji.Keys.{respell}
 use Rattle.ji.proofs.Bools.{either, false_true, and_yes, and_no, and_false, and_left, and_right, or_no, number_yes, number_no, text_yes, text_no}
 use Rattle.ji.proofs.text.Laws.{drop_next, begins_length, replace_hit, replace_miss, replace_none}
 use Rattle.ji.proofs.unicode.Bytes.{last_skip}
+use Rattle.std.specs.Prelude.{None, Some}
 use Rattle.khiin.specs.Syllable.{vowel_rules, nasal_rules, o_rules, ends_nasal, moved}
 use Rattle.khiin.specs.Compose.{Front, is_pair, is_nasal_pair, takes_dot, NoPairIn, NoNasalBefore, NoSignBefore, DotAt}
 use Rattle.khiin.proofs.syllable.compose.Laws.{pair_at_law, nasal_short, nasal_read, dotted, o_dotted, dot_at}
@@ -611,20 +612,16 @@ module _ (s : List ℕ) (n : NoSignBefore s) where
   no_dot : (k : ℕ) → (k + 2 ≡ length s → ⊥) → (k + 3 ≡ length s → ⊥) → takes_dot (drop k s) ≡ false
   no_dot k l m = dot_at s k ∙ low_dot (get_or s k 0) (get_or s (k + 1) 0) (get_or s (k + 2) 0) (low_at_law (k + 1) (λ w. l (omega arith))) (low_at_law (k + 2) (λ w. m (omega arith)))
 
-  dots_none : ((k : ℕ) → takes_dot (drop k s) ≡ false) → DotAt 0 s
-  dots_none h = record { nowhere = λ e. o_dotted s ∙ dotted_quiet s h; behind = λ e. absurd (omega arith) }
+  dots_none : ((k : ℕ) → takes_dot (drop k s) ≡ false) → DotAt None s
+  dots_none h = o_dotted s ∙ dotted_quiet s h
 
-  dots_one : (k at : ℕ) → k + 1 ≡ at → k < length s → takes_dot (drop k s) ≡ true → ((j : ℕ) → (j ≡ k → ⊥) → takes_dot (drop j s) ≡ false) → DotAt at s
-  dots_one k at e h t q =
-      record {
-        nowhere = λ z. absurd (omega arith);
-        behind = λ z. (omega arith, o_dotted s ∙ dotted_once s k h t q ∙ ap (λ (m : ℕ). take m s ++ (0x0358 ∷ drop m s)) e);
-      }
+  dots_one : (k at : ℕ) → k + 1 ≡ at → k < length s → takes_dot (drop k s) ≡ true → ((j : ℕ) → (j ≡ k → ⊥) → takes_dot (drop j s) ≡ false) → DotAt (Some at) s
+  dots_one k at e h t q = (omega arith, o_dotted s ∙ dotted_once s k h t q ∙ ap (λ (m : ℕ). take m s ++ (0x0358 ∷ drop m s)) e)
 
-  pub dot_short : length s < 2 → DotAt 0 s
+  pub dot_short : length s < 2 → DotAt None s
   dot_short h = dots_none (λ k. no_dot k (λ w. omega arith) (λ w. omega arith))
 
-  pub dot_low : get_or s (length s - 1) 0 < 0x1D3A → DotAt 0 s
+  pub dot_low : get_or s (length s - 1) 0 < 0x1D3A → DotAt None s
   dot_low h =
       dots_none (λ k. dot_at s k ∙ low_dot (get_or s k 0) (get_or s (k + 1) 0) (get_or s (k + 2) 0) (all_low (k + 1)) (all_low (k + 2)))
     where
@@ -636,7 +633,7 @@ module _ (s : List ℕ) (n : NoSignBefore s) where
           by_end (no e) = low_at_law k e
 
   module _ (two : 2 ≤ length s) where
-    pub dot_last : takes_dot (drop (length s - 2) s) ≡ true → DotAt (length s - 1) s
+    pub dot_last : takes_dot (drop (length s - 2) s) ≡ true → DotAt (Some (length s - 1)) s
     dot_last e = dots_one (length s - 2) (length s - 1) (omega arith) (omega arith) e (λ j l. by_place j l (ℕ_discrete (j + 3) (length s)))
       where
         letter : (get_or s (length s - 2) 0 ≡ 0x4F) ⊎ (get_or s (length s - 2) 0 ≡ 0x6F)
@@ -648,14 +645,14 @@ module _ (s : List ℕ) (n : NoSignBefore s) where
             dot_at s j ∙ dot_before_o (get_or s j 0) (get_or s (j + 1) 0) (get_or s (j + 2) 0) (subst (λ (k : ℕ). (get_or s k 0 ≡ 0x4F) ⊎ (get_or s k 0 ≡ 0x6F)) (sym z) letter)
         by_place j l (no m) = no_dot j (λ w. l (omega arith)) m
 
-    pub dot_second : 2 < length s → takes_dot (drop (length s - 2) s) ≡ false → takes_dot (drop (length s - 3) s) ≡ true → DotAt (length s - 2) s
+    pub dot_second : 2 < length s → takes_dot (drop (length s - 2) s) ≡ false → takes_dot (drop (length s - 3) s) ≡ true → DotAt (Some (length s - 2)) s
     dot_second three f e = dots_one (length s - 3) (length s - 2) (omega arith) (omega arith) e (λ j l. by_place j l (ℕ_discrete (j + 2) (length s)))
       where
         by_place : (j : ℕ) → (j ≡ length s - 3 → ⊥) → Dec (j + 2 ≡ length s) → takes_dot (drop j s) ≡ false
         by_place j l (yes m) = let z : j ≡ length s - 2 = omega arith in ap (λ (k : ℕ). takes_dot (drop k s)) z ∙ f
         by_place j l (no m) = no_dot j m (λ w. l (omega arith))
 
-    pub dot_nowhere : takes_dot (drop (length s - 2) s) ≡ false → (2 < length s → takes_dot (drop (length s - 3) s) ≡ false) → DotAt 0 s
+    pub dot_nowhere : takes_dot (drop (length s - 2) s) ≡ false → (2 < length s → takes_dot (drop (length s - 3) s) ≡ false) → DotAt None s
     dot_nowhere f g = dots_none (λ j. by_place j (ℕ_discrete (j + 2) (length s)) (ℕ_discrete (j + 3) (length s)))
       where
         by_place : (j : ℕ) → Dec (j + 2 ≡ length s) → Dec (j + 3 ≡ length s) → takes_dot (drop j s) ≡ false

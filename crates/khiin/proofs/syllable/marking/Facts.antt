@@ -13,7 +13,9 @@ use Rattle.ji.proofs.Cases.{none_not_some}
 use Rattle.ji.proofs.Bools.{either, false_true, and_left, and_right, number_no, text_yes, text_no}
 use Rattle.ji.proofs.unicode.Bytes.{same_equal}
 use Rattle.ji.proofs.unicode.Laws.{spread_itself}
-use Rattle.khiin.specs.Compose.{is_mark, Joined}
+use Rattle.khiin.specs.Compose.{is_mark, JoinedAs}
+use Rattle.khiin.specs.declared.syllable.marking.Joined.{Joined}
+use Rattle.khiin.specs.declared.syllable.marking.Joined.TheVariants.{Composite, Apart, Unknown}
 
 -- ── classes
 abbrev marks_only : List (ℕ × ℕ) → Bool
@@ -124,12 +126,15 @@ no_composite a b h = go (composite unicode16 a b) refl
     go (some p) e = absurd (false_true (sym h ∙ second_fits_law a b p e))
 
 -- ── the composites of the letters
-abbrev pub is_some : ℕ → Option ℕ → Bool
-is_some r none = eqb r 1
-is_some r (some p) = eqb p r && (leb 0x80 r && ltb r 0x0300)
+abbrev pub is_told : Joined → Option ℕ → Bool
+is_told (Composite c) none = false
+is_told (Composite c) (some p) = eqb p c && (leb 0x80 c && ltb c 0x0300)
+is_told Apart none = true
+is_told Apart (some p) = false
+is_told Unknown o = true
 
-unfoldable pub is_joined : ℕ → ℕ → ℕ → Bool
-is_joined x mark r = ltb x 0x80 && (is_mark mark && is_some r (composite unicode16 x mark))
+unfoldable pub is_joined : ℕ → ℕ → Joined → Bool
+is_joined x mark j = ltb x 0x80 && (is_mark mark && is_told j (composite unicode16 x mark))
 
 two_left : (a b : Bool) → T (a && b) → T a
 two_left true b t = tt
@@ -139,38 +144,33 @@ two_right : (a b : Bool) → T (a && b) → T b
 two_right true b t = t
 two_right false b t = absurd t
 
-module _ (k mark r : ℕ) (low : k < 0x80) (mark_is : is_mark mark ≡ true) where
-  known : (o : Option ℕ) → composite unicode16 k mark ≡ o → T (is_some r o) → Joined k mark r
-  known none e h =
-      let is : r ≡ 1 = eqb→eq r 1 h in
-      record { letter = λ z. low; tone = λ z. mark_is; apart = λ z. e; one = λ z. absurd (let q : ⊥ = omega arith in q); small = λ z. absurd (let q : ⊥ = omega arith in q) }
-  known (some p) e h =
-      let is : p ≡ r = eqb→eq p r (two_left (eqb p r) (leb 0x80 r && ltb r 0x0300) h) in
-      let both : T (leb 0x80 r && ltb r 0x0300) = two_right (eqb p r) (leb 0x80 r && ltb r 0x0300) h in
-      let from : 0x80 ≤ r = leb→le 0x80 r (two_left (leb 0x80 r) (ltb r 0x0300) both) in
-      let to : r < 0x0300 = ltb→lt r 0x0300 (two_right (leb 0x80 r) (ltb r 0x0300) both) in
-      record { letter = λ z. low; tone = λ z. mark_is; apart = λ z. absurd (let q : ⊥ = omega arith in q); one = λ z. e ∙ ap some is; small = λ z. (from, to) }
+module _ (k mark : ℕ) (low : k < 0x80) (mark_is : is_mark mark ≡ true) where
+  known : (j : Joined) (o : Option ℕ) → composite unicode16 k mark ≡ o → T (is_told j o) → JoinedAs k mark j
+  known (Composite c) none e h = absurd h
+  known (Composite c) (some p) e h =
+      let is : p ≡ c = eqb→eq p c (two_left (eqb p c) (leb 0x80 c && ltb c 0x0300) h) in
+      let both : T (leb 0x80 c && ltb c 0x0300) = two_right (eqb p c) (leb 0x80 c && ltb c 0x0300) h in
+      let from : 0x80 ≤ c = leb→le 0x80 c (two_left (leb 0x80 c) (ltb c 0x0300) both) in
+      let to : c < 0x0300 = ltb→lt c 0x0300 (two_right (leb 0x80 c) (ltb c 0x0300) both) in
+      record { letter = low; tone = mark_is; one = e ∙ ap some is; small = (from, to) }
+  known Apart none e h = record { letter = low; tone = mark_is; apart = e }
+  known Apart (some p) e h = absurd h
+  known Unknown o e h = tt
 
 true_of : (b : Bool) → T b → b ≡ true
 true_of true t = refl
 true_of false t = absurd t
 
 -- at the letter k
-pub joined_at : (k mark r : ℕ) → T (is_joined k mark r) → (x : ℕ) → x ≡ k → Joined x mark r
+pub joined_at : (k mark : ℕ) (j : Joined) → T (is_joined k mark j) → (x : ℕ) → x ≡ k → JoinedAs x mark j
 unfolding is_joined
-joined_at k mark r h x e =
-    subst (λ (y : ℕ). Joined y mark r) (sym e)
-    (let rest = two_right (ltb k 0x80) (is_mark mark && is_some r (composite unicode16 k mark)) h in
-    known k mark r (ltb→lt k 0x80 (two_left (ltb k 0x80) _ h)) (true_of (is_mark mark) (two_left (is_mark mark) _ rest)) (composite unicode16 k mark) refl
+joined_at k mark j h x e =
+    subst (λ (y : ℕ). JoinedAs y mark j) (sym e)
+    (let rest = two_right (ltb k 0x80) (is_mark mark && is_told j (composite unicode16 k mark)) h in
+    known k mark (ltb→lt k 0x80 (two_left (ltb k 0x80) _ h)) (true_of (is_mark mark) (two_left (is_mark mark) _ rest)) j (composite unicode16 k mark) refl
     (two_right (is_mark mark) _ rest))
 
--- nothing is said
-pub joined_not : (x mark : ℕ) → Joined x mark 0
-joined_not x mark =
-    record { letter = λ z. absurd (let q : ⊥ = omega arith in q); tone = λ z. absurd (let q : ⊥ = omega arith in q); apart = λ z. absurd (let q : ⊥ = omega arith in q); one = λ z. absurd (let q : ⊥ = omega arith in q); small = λ z. absurd (let q : ⊥ = omega arith in q) }
-
 -- no letter has a composite with 030D
-pub joined_line : (x : ℕ) → x < 0x80 → Joined x 0x030D 1
+pub joined_line : (x : ℕ) → x < 0x80 → JoinedAs x 0x030D Apart
 unfolding listed
-joined_line x low =
-    record { letter = λ z. low; tone = λ z. refl; apart = λ z. no_composite x 0x030D refl; one = λ z. absurd (let q : ⊥ = omega arith in q); small = λ z. absurd (let q : ⊥ = omega arith in q) }
+joined_line x low = record { letter = low; tone = refl; apart = no_composite x 0x030D refl }

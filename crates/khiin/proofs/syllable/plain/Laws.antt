@@ -12,23 +12,20 @@ use lib.Seq.{get_or-take}
 use Rattle.ji.specs.Unicode.{unicode16}
 use Rattle.ji.specs.Text.{all_ascii}
 use Rattle.ji.specs.Utf8.{bytes_of, encode}
-use Rattle.ji.specs.Reply.{Reply, placed, text_reply}
 use Rattle.ji.specs.Lomaji.ToneLetter.{tone_letter, byte_place_of}
 use Rattle.ji.specs.declared.tone.Tone.{Tone}
 use Rattle.ji.specs.declared.lomaji.khin.Khin.TheVariants.{No}
-use Rattle.ji.specs.declared.reply.Refusal.TheVariants.{NoRoom}
 use Rattle.ji.specs.Lomaji.Keys.{respell}
 use Rattle.ji.proofs.Bools.{and_yes, or_yes}
 use Rattle.ji.proofs.text.Laws.{drop_next}
 use Rattle.ji.proofs.unicode.Bytes.{bytes_one, bytes_two, bytes_three, bytes_four, encode_cons, encode_append}
 use Rattle.ji.proofs.unicode.Ascii.{ascii_nil, ascii_low, ascii_rest, ascii_at, ascii_take, ascii_drop, ascii_bytes}
 use Rattle.khiin.specs.Syllable.{o_rules, mark_of, encoded, composed_with, compose}
-use Rattle.khiin.specs.Compose.{settled_body, settled_from, Joined, NoSignBefore, Plain, answer_of, QuickAs}
+use Rattle.khiin.specs.Compose.{settled_body, settled_from, MakeOne, MakeNone, NoSignBefore, Plain}
 use Rattle.khiin.proofs.syllable.compose.Laws.{nasalised_no, composed_is}
 use Rattle.khiin.proofs.syllable.compose.Pairs.{vowels_apart}
 use Rattle.khiin.proofs.syllable.compose.Once.{moved_none_lone, dot_low}
 use Rattle.khiin.proofs.syllable.marking.Settled.{listed_mark, encoded_settled}
-use Rattle.khiin.proofs.syllable.marking.Sizes.{no_change}
 use Rattle.khiin.proofs.syllable.marking.Marked.{marked_one, marked_none}
 use Rattle.std.specs.Prelude.{Option}
 use Rattle.ji.specs.declared.unicode.ByteLen.{ByteLen}
@@ -43,7 +40,7 @@ module _ (s : List ℕ) (p : Plain s) where
   settled_itself = rw (vowels_apart s p.apart, nasalised_no s p.oral) (moved_none_lone s no_sign)
 
   undotted : respell o_rules s ≡ s
-  undotted = (dot_low s no_sign (omega (arith, ascii_at s (length s - 1) p.ascii))).nowhere refl
+  undotted = dot_low s no_sign (omega (arith, ascii_at s (length s - 1) p.ascii))
 
   pub plain_composed : (raw_input : List ℕ) (tone : Tone) → composed_with unicode16 raw_input s (mark_of tone) ≡ compose unicode16 raw_input s tone No
   plain_composed raw_input tone = ap (λ (u : List ℕ). composed_with unicode16 raw_input u (mark_of tone)) (sym undotted) ∙ composed_is raw_input s s tone No settled_itself
@@ -97,30 +94,22 @@ module _ (s : List ℕ) (h : all_ascii s ≡ true) where
       ∙ ap₂ (λ (u v : List ℕ). u ++ v) (ascii_bytes (take i s) (ascii_take i s h)) (encode_cons x (drop j s) ∙ ap (λ (v : List ℕ). bytes_of x ++ v) (ascii_bytes (drop j s) (ascii_drop j s h)))
 
   -- a mark behind the letter at k
-  module _ (k mark c : ℕ) (l : k < length s) (j : Joined (get_or s k 0) mark c) where
+  module _ (k mark : ℕ) (l : k < length s) where
     low : get_or s k 0 < 0xC0
     low = omega (arith, ascii_at s k h)
 
     -- it gives way, with the letter, to their composite
-    pub joined_bytes : 1 < c → take k s ++ (bytes_of c ++ drop (k + 1) s) ≡ encode (encoded unicode16 (take (k + 1) s ++ (mark ∷ drop (k + 1) s)))
-    joined_bytes one =
-        sym (ap encode (marked_one s k mark (ascii_settled 0 s h) l low (listed_mark mark (j.tone (omega arith))) c (j.one one) (j.small one).1) ∙ between k (k + 1) c)
+    pub joined_bytes : (c : ℕ) → MakeOne (get_or s k 0) mark c → take k s ++ (bytes_of c ++ drop (k + 1) s) ≡ encode (encoded unicode16 (take (k + 1) s ++ (mark ∷ drop (k + 1) s)))
+    joined_bytes c j = sym (ap encode (marked_one s k mark (ascii_settled 0 s h) l low (listed_mark mark j.tone) c j.one j.small.1) ∙ between k (k + 1) c)
 
     -- it stays where they have none
-    pub apart_bytes : c ≡ 1 → take (k + 1) s ++ (bytes_of mark ++ drop (k + 1) s) ≡ encode (encoded unicode16 (take (k + 1) s ++ (mark ∷ drop (k + 1) s)))
-    apart_bytes e =
+    pub apart_bytes : MakeNone (get_or s k 0) mark → take (k + 1) s ++ (bytes_of mark ++ drop (k + 1) s) ≡ encode (encoded unicode16 (take (k + 1) s ++ (mark ∷ drop (k + 1) s)))
+    apart_bytes j =
         sym
         (ap encode
-        (marked_none s k mark (ascii_settled 0 s h) l low (listed_mark mark (j.tone (omega arith))) (inr (λ z. omega (arith, z, ascii_at s (k + 1) h))) (j.apart e))
+        (marked_none s k mark (ascii_settled 0 s h) l low (listed_mark mark j.tone) (inr (λ z. omega (arith, z, ascii_at s (k + 1) h))) j.apart)
         ∙ between (k + 1) (k + 1) mark)
 
 -- ── the place of the tone letter, as the answer has it
 pub byte_place_told : (s : List ℕ) {p x : Option ByteLen} → p ≡ x → byte_place_of p ≡ tone_letter s → tone_letter s ≡ byte_place_of x
 byte_place_told s e h = sym h ∙ ap byte_place_of e
-
--- ── a writer that found no room changed nothing, so that its number says all of the quick way
-pub quick : (r : ℕ) (text before after : List ℕ) → text_reply (answer_of r) after ≡ placed 0 text before → QuickAs r before after (placed 0 text before)
-quick r text before after e = (λ z. no_change text before after (answer_of 0) (ap (λ (n : ℕ). text_reply (answer_of n) after) (sym z) ∙ e) NoRoom refl, λ h. e)
-
-pub quick_not : (before : List ℕ) (reply : Reply) → QuickAs 0 before before reply
-quick_not before reply = (λ z. refl, λ h. absurd (let w : ⊥ = omega (arith, h) in w))

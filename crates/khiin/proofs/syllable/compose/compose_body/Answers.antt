@@ -4,7 +4,7 @@ use mathlib.Core.List.{List}
 use Prim.Native.Nat.{ℕ}
 use Rattle.ji.specs.Unicode.{unicode16}
 use Rattle.ji.specs.Utf8.{encode}
-use Rattle.ji.specs.Reply.{placed, Checked, good, text_reply}
+use Rattle.ji.specs.Reply.{placed, Checked, good}
 use Rattle.ji.proofs.Writing.{written_length, written_take}
 use Rattle.ji.proofs.Replies.{check_within_law}
 use Rattle.ji.proofs.Points.{points_refused}
@@ -13,9 +13,6 @@ use Rattle.khiin.proofs.syllable.compose.Reading.{points_fewer, read_whole}
 use native.Mathlib.Omega.{arith}
 use Rattle.khiin.proofs.syllable.compose.compose_body.Goals as goal
 use Rattle.khiin.proofs.syllable.compose.compose_body.Goals.{After-code_points}
-use Rattle.std.specs.Prelude.{Result}
-use Rattle.ji.specs.declared.unicode.ByteLen.{ByteLen}
-use Rattle.ji.specs.declared.reply.Refusal.{Refusal}
 
 pub compose_points-requires : goal.compose_points-requires
 compose_points-requires c =
@@ -33,7 +30,6 @@ pub returns : goal.returns
 returns c =
     λ raw_input e.
     let h = read_whole c.args.body.now c.args.points.now c.code_points.new.out c.requires.0 c.requires.1 c.code_points.ensures c.in_ok-len.len c.in_ok-len.was in
-    ap (λ (x : Result ByteLen Refusal). text_reply x c.compose_points.new.out) c.answer.ensures
-    ∙ c.compose_points.ensures raw_input e
+    c.compose_points.ensures raw_input e
     ∙ ap (λ (s : List ℕ). placed 0 (encode (compose unicode16 raw_input s c.args.tone c.args.khin)) c.args.out.now) (written_take h.2)
     ∙ ap (λ (k : Checked). compose_of unicode16 c.args.tone c.args.khin (good raw_input) k c.args.out.now) (sym h.1)

@@ -2,12 +2,15 @@ use mathlib.Core.Path.{sym, ◌∙◌}
 use Rattle.khiin.proofs.syllable.compose.Once.{dot_short, dot_low, dot_last, dot_second, dot_nowhere}
 use native.Mathlib.Omega.{arith}
 use Rattle.khiin.proofs.syllable.compose.dot_place.Goals as goal
+use Rattle.khiin.proofs.syllable.compose.dot_place.Goals.{then-n-lt2-via-then-n-lt2, then-n-lt2-via-else-n-lt2+then-s-n-lt-CAPITAL_SIGN, else-n-gt2-via-then-n-gt2+else-takes_dot-2, else-n-gt2-via-else-n-gt2}
 
 pub returns-then-n-lt2 : goal.returns-then-n-lt2
-returns-then-n-lt2 c = λ n. dot_short c.args.s.now n c.if-n-lt2.true
-
-pub returns-then-s-n-lt-CAPITAL_SIGN : goal.returns-then-s-n-lt-CAPITAL_SIGN
-returns-then-s-n-lt-CAPITAL_SIGN c = λ n. dot_low c.args.s.now n c.if-s-n-lt-CAPITAL_SIGN.true
+returns-then-n-lt2 c =
+    λ n.
+    elim c.then-n-lt2.branch [
+      | then-n-lt2-via-then-n-lt2 w ↦ dot_short c.args.s.now n w.if-n-lt2.true
+      | then-n-lt2-via-else-n-lt2+then-s-n-lt-CAPITAL_SIGN w ↦ dot_low c.args.s.now n w.if-s-n-lt-CAPITAL_SIGN.true
+    ]
 
 pub returns-then-takes_dot : goal.returns-then-takes_dot
 returns-then-takes_dot c =
@@ -19,12 +22,11 @@ returns-then-takes_dot-2 c =
     λ n.
     dot_second c.args.s.now n c.if-n-lt2.false c.if-n-gt2.true (sym c.takes_dot.ensures ∙ c.if-takes_dot.false) (sym c.takes_dot-then-n-gt2.ensures ∙ c.if-takes_dot-2.true)
 
-pub returns-else-takes_dot-2 : goal.returns-else-takes_dot-2
-returns-else-takes_dot-2 c =
+pub returns : goal.returns
+returns c =
     λ n.
-    dot_nowhere c.args.s.now n c.if-n-lt2.false (sym c.takes_dot.ensures ∙ c.if-takes_dot.false) (λ h. sym c.takes_dot-then-n-gt2.ensures ∙ c.if-takes_dot-2.false)
-
-pub returns-else-n-gt2 : goal.returns-else-n-gt2
-returns-else-n-gt2 c =
-    λ n.
-    dot_nowhere c.args.s.now n c.if-n-lt2.false (sym c.takes_dot.ensures ∙ c.if-takes_dot.false) (λ h. absurd (omega (arith, c.if-n-gt2.false)))
+    dot_nowhere c.args.s.now n c.if-n-lt2.false (sym c.takes_dot.ensures ∙ c.if-takes_dot.false)
+    (λ h. elim c.else-n-gt2.branch [
+      | else-n-gt2-via-then-n-gt2+else-takes_dot-2 w ↦ sym w.takes_dot-then-n-gt2.ensures ∙ w.if-takes_dot-2.false
+      | else-n-gt2-via-else-n-gt2 w ↦ absurd (omega (arith, h, w.if-n-gt2.false))
+    ])

@@ -8,7 +8,7 @@ use Rattle.khiin.specs.Compose.{Front}
 use Rattle.khiin.proofs.syllable.compose.Once.{nasal_three, end_capital, end_small, front_signed}
 use native.Mathlib.Omega.{arith}
 use Rattle.khiin.proofs.syllable.compose.end_in_sign.Goals as goal
-use Rattle.khiin.proofs.syllable.compose.end_in_sign.Goals.{then-s-n-eq78+else-s-n-eq78-2, else-s-n-eq78}
+use Rattle.khiin.proofs.syllable.compose.end_in_sign.Goals.{then-s-n-eq78+then-s-n-eq78-2, else-s-n-eq78, else-s-n-eq78-via-then-s-n-eq78+else-s-n-eq78-2, else-s-n-eq78-via-else-s-n-eq78}
 
 signed : (s : List ℕ) (sign : ℕ) → 3 ≤ length s → respell nasal_rules s ≡ take (length s - 2) s ++ (sign ∷ []) → Front (set s (length s - 2) sign) (length s - 1) (respell nasal_rules s)
 signed s sign h e = subst (Front (set s (length s - 2) sign) (length s - 1)) (sym e) (front_signed s sign h)
@@ -22,37 +22,26 @@ bounds-s-n c = omega (arith, nasal_three c.args.s.now c.requires.0)
 pub overflow_sub-n-then-s-n-eq78 : goal.overflow_sub-n-then-s-n-eq78
 overflow_sub-n-then-s-n-eq78 c = omega (arith, nasal_three c.args.s.now c.requires.0)
 
-pub bounds-s-n-then-s-n-eq78 : goal.bounds-s-n-then-s-n-eq78
-bounds-s-n-then-s-n-eq78 c = omega (arith, nasal_three c.args.s.now c.requires.0)
-
 pub overflow_sub-s : goal.overflow_sub-s
 overflow_sub-s c = omega (arith, nasal_three c.args.s.now c.requires.0)
-
-pub bounds-s-n-then-s-n-eq78-2 : goal.bounds-s-n-then-s-n-eq78-2
-bounds-s-n-then-s-n-eq78-2 c = omega (arith, nasal_three c.args.s.now c.requires.0)
-
-pub overflow_sub-result : goal.overflow_sub-result
-overflow_sub-result c = omega (arith, nasal_three c.args.s.now c.requires.0)
-
-pub returns-then-s-n-eq78-2 : goal.returns-then-s-n-eq78-2
-returns-then-s-n-eq78-2 c =
-    let s = c.args.s.now in
-    signed s 0x1D3A (nasal_three s c.requires.0) (end_capital s c.requires.0 c.requires.1 c.if-s-n-eq78.true c.if-s-n-eq78-2.true)
-
-pub overflow_sub-s-2 : goal.overflow_sub-s-2
-overflow_sub-s-2 c = omega (arith, nasal_three c.args.s.now c.requires.0)
 
 pub bounds-s-n-2 : goal.bounds-s-n-2
 bounds-s-n-2 c = omega (arith, nasal_three c.args.s.now c.requires.0)
 
-pub overflow_sub-result-2 : goal.overflow_sub-result-2
-overflow_sub-result-2 c = omega (arith, nasal_three c.args.s.now c.requires.0)
+pub overflow_sub-result : goal.overflow_sub-result
+overflow_sub-result c = omega (arith, nasal_three c.args.s.now c.requires.0)
 
 pub returns : goal.returns
 returns c =
     let s = c.args.s.now in
-    signed s 0x207F (nasal_three s c.requires.0)
-    (end_small s c.requires.0 c.requires.1 (λ f g. elim c.if-s-n-eq78.branch [
-      | then-s-n-eq78+else-s-n-eq78-2 w ↦ w.if-s-n-eq78-2.false g
-      | else-s-n-eq78 w ↦ w.if-s-n-eq78.false f
-    ]))
+    let three = nasal_three s c.requires.0 in
+    elim c.if-s-n-eq78.branch [
+      | then-s-n-eq78+then-s-n-eq78-2 w ↦ rw w.sign-is (signed s 0x1D3A three (end_capital s c.requires.0 c.requires.1 w.if-s-n-eq78.true w.if-s-n-eq78-2.true))
+      | else-s-n-eq78 w ↦
+          rw w.sign-is
+          (signed s 0x207F three
+          (end_small s c.requires.0 c.requires.1 (λ f g. elim w.else-s-n-eq78.branch [
+            | else-s-n-eq78-via-then-s-n-eq78+else-s-n-eq78-2 v ↦ v.if-s-n-eq78-2.false g
+            | else-s-n-eq78-via-else-s-n-eq78 v ↦ v.if-s-n-eq78.false f
+          ])))
+    ]

@@ -1,21 +1,42 @@
 use mathlib.Core.Path.{sym, ap, ◌∙◌}
+use borrow.Author.Tests.{ltb-true, eqb-true, eqb-false}
 use Rattle.ji.specs.Unicode.{listed}
 use Rattle.ji.specs.Text.{marked}
+use Rattle.ji.proofs.Bools.{false_true}
 use Rattle.khiin.proofs.syllable.compose.Laws.{nasal_short, nasal_not_last, nasal_not_second, nasal_by_letter}
+use native.Mathlib.Omega.{arith}
 use Rattle.khiin.proofs.syllable.compose.ends_nasal.Goals as goal
+use Rattle.khiin.proofs.syllable.compose.ends_nasal.Goals.{then-n-gt2, else-n-gt2, then-lower-eq110, else-lower-eq110}
 
-pub returns-then-n-lt3 : goal.returns-then-n-lt3
-returns-then-n-lt3 c = sym (nasal_short c.args.s.now c.if-n-lt3.true)
-
-pub returns-then-lower-ne110 : goal.returns-then-lower-ne110
-returns-then-lower-ne110 c = sym (nasal_not_last c.args.s.now c.if-n-lt3.false (λ e. c.if-lower-ne110.true (c.lower.ensures ∙ e)))
-
-pub returns-then-lower-ne110-2 : goal.returns-then-lower-ne110-2
-returns-then-lower-ne110-2 c = sym (nasal_not_second c.args.s.now c.if-n-lt3.false (λ e. c.if-lower-ne110-2.true (c.lower-2.ensures ∙ e)))
-
-pub returns : goal.returns
-returns c =
+pub returns-then-lower-eq110-2 : goal.returns-then-lower-eq110-2
+returns-then-lower-eq110-2 c =
     let s = c.args.s.now in
-    c.takes_nasal.ensures
-    ∙ ap (listed (marked "aeiouptkhm" 0x0358)) c.lower-3.ensures
-    ∙ sym (nasal_by_letter s c.if-n-lt3.false (sym c.lower-2.ensures ∙ c.if-lower-ne110-2.false) (sym c.lower.ensures ∙ c.if-lower-ne110.false))
+    elim c.if-lower-eq110.branch [
+      | then-lower-eq110 w ↦
+          elim c.if-n-gt2.branch [
+            | then-n-gt2 v ↦
+                let second = sym w.lower-then-lower-eq110.ensures ∙ eqb-true _ _ (sym w.value-is ∙ c.if-lower-eq110-2.true) in
+                let last = sym v.lower.ensures ∙ eqb-true _ _ (sym v.value-is ∙ w.if-lower-eq110.true) in
+                c.takes_nasal.ensures ∙ ap (listed (marked "aeiouptkhm" 0x0358)) c.lower-then-lower-eq110-2.ensures ∙ sym (nasal_by_letter s (omega (arith, v.if-n-gt2.true)) second last)
+            | else-n-gt2 v ↦ absurd (omega (arith, v.if-n-gt2.false, ltb-true 2 _ (sym v.value-is ∙ w.if-lower-eq110.true)))
+          ]
+      | else-lower-eq110 w ↦ absurd (false_true (sym (w.value-is ∙ w.if-lower-eq110.false) ∙ c.if-lower-eq110-2.true))
+    ]
+
+pub returns-else-lower-eq110-2 : goal.returns-else-lower-eq110-2
+returns-else-lower-eq110-2 c =
+    let s = c.args.s.now in
+    c.if-lower-eq110-2.false
+    ∙ sym
+    (elim c.if-lower-eq110.branch [
+      | then-lower-eq110 w ↦
+          elim c.if-n-gt2.branch [
+            | then-n-gt2 v ↦ nasal_not_second s (omega (arith, v.if-n-gt2.true)) (λ z. eqb-false _ _ (sym w.value-is ∙ c.if-lower-eq110-2.false) (w.lower-then-lower-eq110.ensures ∙ z))
+            | else-n-gt2 v ↦ nasal_short s (omega (arith, v.if-n-gt2.false))
+          ]
+      | else-lower-eq110 w ↦
+          elim c.if-n-gt2.branch [
+            | then-n-gt2 v ↦ nasal_not_last s (omega (arith, v.if-n-gt2.true)) (λ z. eqb-false _ _ (sym v.value-is ∙ w.if-lower-eq110.false) (v.lower.ensures ∙ z))
+            | else-n-gt2 v ↦ nasal_short s (omega (arith, v.if-n-gt2.false))
+          ]
+    ])

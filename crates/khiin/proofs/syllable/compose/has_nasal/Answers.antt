@@ -1,4 +1,4 @@
-use mathlib.Core.Path.{◌≡◌, sym, ap, ◌∙◌, subst}
+use mathlib.Core.Path.{◌≡◌, ap, ◌∙◌, subst}
 use mathlib.Core.Bool.{Bool, false, ◌&&◌}
 use mathlib.Core.List.{List}
 use Prim.Native.Nat.{ℕ, ◌+◌, ◌-◌, ◌≤◌, ◌<◌}
@@ -7,12 +7,12 @@ use borrow.Author.Tests.{ne_eqb}
 use lib.Dec.{eqb}
 use lib.ListN.{drop, get_or}
 use Rattle.ji.specs.Text.{lower}
-use Rattle.ji.proofs.Bools.{false_true, and_no, and_false}
+use Rattle.ji.proofs.Bools.{and_no, and_false}
 use Rattle.khiin.specs.Compose.{is_nasal_pair}
 use Rattle.khiin.proofs.syllable.compose.Once.{nasal_at}
 use native.Mathlib.Omega.{arith}
 use Rattle.khiin.proofs.syllable.compose.has_nasal.Goals as goal
-use Rattle.khiin.proofs.syllable.compose.has_nasal.Goals.{then-lower-eq110+else-lower-eq110-2, else-lower-eq110}
+use Rattle.khiin.proofs.syllable.compose.has_nasal.Goals.{else-lower-eq110-via-then-lower-eq110+else-lower-eq110-2, else-lower-eq110-via-else-lower-eq110}
 
 -- one place more
 more : (s : List ℕ) (i : ℕ) → 2 ≤ i → ((k : ℕ) → k + 2 < i → is_nasal_pair (drop k s) ≡ false) → is_nasal_pair (drop (i - 2) s) ≡ false → (k : ℕ) → k + 2 < i + 1 → is_nasal_pair (drop k s) ≡ false
@@ -33,23 +33,13 @@ second_not s i h n =
     ∙ ap (λ (b : Bool). eqb (lower (get_or s (i - 2) 0)) 0x6E && b) (ne_eqb _ _ n)
     ∙ and_false (eqb (lower (get_or s (i - 2) 0)) 0x6E)
 
-pub loop-i-init : goal.loop-i-init
-loop-i-init c = (omega arith, λ k h. absurd (omega arith))
-
-pub returns-then-lower-eq110-2 : goal.returns-then-lower-eq110-2
-returns-then-lower-eq110-2 c = λ e. absurd (false_true (sym e))
-
 pub loop-i-preserved : goal.loop-i-preserved
 loop-i-preserved c =
     let s = c.args.s.now in
-    let i = c.loop-i.i in (
-      omega arith,
-      more s i c.loop-i.invariant.0 c.loop-i.invariant.1
-          (elim c.if-lower-eq110.branch [
-            | then-lower-eq110+else-lower-eq110-2 w ↦ second_not s i c.loop-i.invariant.0 (λ z. w.if-lower-eq110-2.false (w.lower-then-lower-eq110.ensures ∙ z))
-            | else-lower-eq110 w ↦ first_not s i (λ z. w.if-lower-eq110.false (c.lower.ensures ∙ z))
-          ]),
-    )
-
-pub returns : goal.returns
-returns c = λ e k h. c.loop-i.invariant.1 k (omega (arith, c.loop-i-test.false))
+    let i = c.loop-i.i in
+    let some : 2 ≤ i = omega arith in
+    more s i some c.loop-i.invariant
+    (elim c.else-lower-eq110.branch [
+      | else-lower-eq110-via-then-lower-eq110+else-lower-eq110-2 w ↦ second_not s i some (λ z. w.if-lower-eq110-2.false (w.lower-then-lower-eq110.ensures ∙ z))
+      | else-lower-eq110-via-else-lower-eq110 w ↦ first_not s i (λ z. w.if-lower-eq110.false (c.lower.ensures ∙ z))
+    ])

@@ -12,5 +12,7 @@ returns-then-is_first c =
     ∙ ap (listed (points "oOuU")) c.at.ensures
     ∙ sym (pair_at_law a.s.now a.i ∙ and_yes _ _ (sym c.is_first.ensures ∙ c.if-is_first.true))
 
-pub returns : goal.returns
-returns c = let a = c.args in sym (pair_at_law a.s.now a.i ∙ and_no _ _ (sym c.is_first.ensures ∙ c.if-is_first.false))
+pub returns-else-is_first : goal.returns-else-is_first
+returns-else-is_first c =
+    let a = c.args in
+    c.if-is_first.false ∙ sym (pair_at_law a.s.now a.i ∙ and_no _ _ (sym c.is_first.ensures ∙ c.if-is_first.false))

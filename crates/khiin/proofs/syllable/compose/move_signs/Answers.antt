@@ -14,7 +14,7 @@ slice_bounds-move_sign-end c = omega (arith, front_fits c.move_sign-n.ensures)
 pub returns-then-has_sign : goal.returns-then-has_sign
 returns-then-has_sign c =
     record {
-      front = front_step c.move_sign-n.ensures (moved 0x1D3A) c.move_sign-m.ensures _;
+      front = front_step c.move_sign-n.ensures (moved 0x1D3A) c.move_sign-len.ensures _;
       lone = λ e. absurd (false_true e);
     }
 

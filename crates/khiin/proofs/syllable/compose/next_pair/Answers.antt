@@ -16,16 +16,8 @@ more s from i n e k l h = by_place (ℕ_discrete k i)
     by_place (yes z) = ap (λ (m : ℕ). is_pair (drop m s)) z ∙ e
     by_place (no z) = n k l (omega arith)
 
-pub loop-i-init : goal.loop-i-init
-loop-i-init c = (omega (arith, c.requires), omega (arith, c.requires), λ k l h. absurd (omega arith))
-
 pub returns-then-is_pair : goal.returns-then-is_pair
-returns-then-is_pair c =
-    (c.loop-i.invariant.0, omega arith, c.loop-i.invariant.2, λ h. sym c.is_pair.ensures ∙ c.if-is_pair.true)
+returns-then-is_pair c = (omega arith, c.loop-i.invariant, sym c.is_pair.ensures ∙ c.if-is_pair.true)
 
 pub loop-i-preserved : goal.loop-i-preserved
-loop-i-preserved c =
-    (omega (arith, c.loop-i.invariant.0), omega arith, more c.args.s.now c.args.from c.loop-i.i c.loop-i.invariant.2 (sym c.is_pair.ensures ∙ c.if-is_pair.false))
-
-pub returns : goal.returns
-returns c = (c.loop-i.invariant.0, c.loop-i.invariant.1, c.loop-i.invariant.2, λ h. absurd (omega (arith, c.loop-i-test.false)))
+loop-i-preserved c = more c.args.s.now c.args.from c.loop-i.i c.loop-i.invariant (sym c.is_pair.ensures ∙ c.if-is_pair.false)

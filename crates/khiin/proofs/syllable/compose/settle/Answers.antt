@@ -1,20 +1,20 @@
 use mathlib.Core.Path.{◌≡◌, ap, ◌∙◌, subst}
 use mathlib.Core.List.{List, ◌++◌}
-use Prim.Native.Nat.{ℕ, ◌-◌}
+use Prim.Native.Nat.{ℕ}
 use lib.ListN.{take}
 use Rattle.ji.specs.Lomaji.Keys.{respell}
 use Rattle.khiin.specs.Syllable.{vowel_rules, nasalised, moved}
 use Rattle.khiin.specs.Compose.{Front, SettledAs, settled_body}
 use Rattle.khiin.specs.declared.syllable.compose.Settled.{Settled}
-use Rattle.khiin.proofs.syllable.compose.Laws.{front_fits, front_part, front_longer}
+use Rattle.khiin.proofs.syllable.compose.Laws.{front_fits, front_longer}
 use native.Mathlib.Omega.{arith}
 use Rattle.khiin.proofs.syllable.compose.settle.Goals as goal
 
 settled : (s : List ℕ) {vowels buffer part : List ℕ} {n : ℕ} {r : Settled} → vowels ≡ respell vowel_rules s → Front buffer n (nasalised vowels)
-    → SettledAs part (moved 0x1D3A (moved 0x207F (take (n - 0) buffer))) r → (rest : List ℕ) → SettledAs (part ++ rest) (settled_body s) r
+    → SettledAs part (moved 0x1D3A (moved 0x207F (take n buffer))) r → (rest : List ℕ) → SettledAs (part ++ rest) (settled_body s) r
 unfolding settled_body
 settled s {vowels} {buffer} {part} {n} {r} e f h rest =
-    let same : take (n - 0) buffer ≡ nasalised (respell vowel_rules s) = front_part f ∙ ap nasalised e in
+    let same : take n buffer ≡ nasalised (respell vowel_rules s) = f.is ∙ ap nasalised e in
     let g = subst (λ (t : List ℕ). SettledAs part (moved 0x1D3A (moved 0x207F t)) r) same h in
     record { front = front_longer g.front rest; lone = g.lone }
 

@@ -1,11 +1,14 @@
 use mathlib.Core.Path.{◌≡◌, sym, ap, ◌∙◌}
-use mathlib.Core.Bool.{true, false}
+use mathlib.Core.Bool.{Bool, true, false}
 use mathlib.Core.List.{List, [], ◌∷◌}
-use Prim.Native.Nat.{ℕ, ◌+◌, ◌≤◌, ◌<◌}
-use lib.ListN.{length, drop, get_or, set, length-drop, length-set}
+use Prim.Native.Nat.{ℕ, ◌+◌, ◌-◌, ◌≤◌, ◌<◌}
+use lib.Dec.{eqb}
+use lib.Seq.{take_all}
+use Rattle.std.specs.List.{starts_with}
+use lib.ListN.{length, take, drop, get_or, set, length-drop, length-set}
 use Rattle.ji.specs.Text.{begins, replace_all}
 use Rattle.ji.proofs.text.Laws.{begins_length, replace_at_hit, replace_at_miss, replace_end}
-use Rattle.khiin.proofs.syllable.compose.Laws.{Walk, walk_start, walk_length, walk_unread, walk_here, walk_one, walk_end}
+use Rattle.khiin.proofs.syllable.compose.Laws.{begins_told, Walk, walk_start, walk_length, walk_unread, walk_here, walk_one, walk_end}
 use native.Mathlib.Omega.{arith}
 use Rattle.khiin.proofs.syllable.compose.shrink_pair.Goals as goal
 
@@ -27,6 +30,11 @@ module _ (a b c : ℕ) {s₀ s : List ℕ} {i n : ℕ} (v : Walk (replace_all (a
         (replace_at_miss (a ∷ b ∷ []) (c ∷ []) s₀ i (omega (arith, walk_length v)) (ap (begins (a ∷ b ∷ [])) (sym (walk_unread v)) ∙ e))
         (omega arith) (omega arith))
 
+-- what was said of the part from i on
+told : (a b : ℕ) (s : List ℕ) (i : ℕ) {r x : Bool} → r ≡ starts_with eqb (take (length s - i) (drop i s)) (a ∷ b ∷ []) → r ≡ x → begins (a ∷ b ∷ []) (drop i s) ≡ x
+told a b s i e is =
+    ap (begins (a ∷ b ∷ [])) (sym (take_all (length s - i) (drop i s) (omega (arith, length-drop i s)))) ∙ sym (begins_told (a ∷ b ∷ []) (take (length s - i) (drop i s))) ∙ sym e ∙ is
+
 pub loop-i-init : goal.loop-i-init
 loop-i-init c = walk_start (replace_all (c.args.a ∷ c.args.b ∷ []) (c.args.c ∷ [])) c.args.s.now
 
@@ -37,25 +45,25 @@ pub overflow_add-n : goal.overflow_add-n
 overflow_add-n c = omega (arith, c.loop-i.invariant.behind)
 
 pub overflow_add-i : goal.overflow_add-i
-overflow_add-i c = omega (arith, two_inside c.args.a c.args.b c.args.c c.loop-i.invariant (sym c.are_two.ensures ∙ c.if-are_two.true))
+overflow_add-i c = omega (arith, two_inside c.args.a c.args.b c.args.c c.loop-i.invariant (told c.args.a c.args.b _ c.loop-i.i c.starts_with.ensures.value c.if-starts_with.true))
 
-pub loop-i-smaller-then-are_two : goal.loop-i-smaller-then-are_two
-loop-i-smaller-then-are_two c = simp length-set (omega arith)
+pub loop-i-smaller-then-starts_with : goal.loop-i-smaller-then-starts_with
+loop-i-smaller-then-starts_with c = simp length-set (omega arith)
 
-pub loop-i-preserved-then-are_two : goal.loop-i-preserved-then-are_two
-loop-i-preserved-then-are_two c = let a = c.args in hit a.a a.b a.c c.loop-i.invariant c.loop-i-test.true (sym c.are_two.ensures ∙ c.if-are_two.true)
+pub loop-i-preserved-then-starts_with : goal.loop-i-preserved-then-starts_with
+loop-i-preserved-then-starts_with c = let a = c.args in hit a.a a.b a.c c.loop-i.invariant c.loop-i-test.true (told c.args.a c.args.b _ c.loop-i.i c.starts_with.ensures.value c.if-starts_with.true)
 
-pub bounds-s-n-else-are_two : goal.bounds-s-n-else-are_two
-bounds-s-n-else-are_two c = omega (arith, c.loop-i.invariant.behind)
+pub bounds-s-n-else-starts_with : goal.bounds-s-n-else-starts_with
+bounds-s-n-else-starts_with c = omega (arith, c.loop-i.invariant.behind)
 
-pub overflow_add-n-else-are_two : goal.overflow_add-n-else-are_two
-overflow_add-n-else-are_two c = omega (arith, c.loop-i.invariant.behind)
+pub overflow_add-n-else-starts_with : goal.overflow_add-n-else-starts_with
+overflow_add-n-else-starts_with c = omega (arith, c.loop-i.invariant.behind)
 
 pub loop-i-smaller : goal.loop-i-smaller
 loop-i-smaller c = simp length-set (omega arith)
 
 pub loop-i-preserved : goal.loop-i-preserved
-loop-i-preserved c = let a = c.args in miss a.a a.b a.c c.loop-i.invariant c.loop-i-test.true (sym c.are_two.ensures ∙ c.if-are_two.false)
+loop-i-preserved c = let a = c.args in miss a.a a.b a.c c.loop-i.invariant c.loop-i-test.true (told c.args.a c.args.b _ c.loop-i.i c.starts_with.ensures.value c.if-starts_with.false)
 
 pub returns : goal.returns
 returns c =

@@ -8,7 +8,10 @@ use lib.ListN.{drop, get_or}
 use Rattle.ji.specs.Text.{begins}
 use Rattle.khiin.specs.Compose.{takes_dot}
 use Rattle.khiin.proofs.syllable.compose.Laws.{dot_at}
+use Rattle.std.proofs.Common.{rules}
+use mathlib.Core.Logic.{◌⊎◌, inl, inr, ⊎_elim}
 use Rattle.khiin.proofs.syllable.compose.takes_dot.Goals as goal
+use Rattle.khiin.proofs.syllable.compose.takes_dot.Goals.{in-79+in-104-1, in-111+in-104-1}
 
 -- a rule by the three code points that it may look at
 both : (s : List ℕ) (i : ℕ) {x y : ℕ} → get_or s i 0 ≡ x → get_or s (i + 1) 0 ≡ y → takes_dot (drop i s) ≡ takes_dot (x ∷ y ∷ get_or s (i + 2) 0 ∷ [])
@@ -30,55 +33,47 @@ after_other : (x y z : ℕ) → (x ≡ 0x4F → ⊥) → (x ≡ 0x6F → ⊥) �
 unfolding takes_dot begins
 after_other x y z a b = rw (ne_eqb x 0x4F a, ne_eqb x 0x6F b)
 
-pub returns-then-next-eq-CAPITAL_SIGN : goal.returns-then-next-eq-CAPITAL_SIGN
+-- behind h
+h_behind : (s : List ℕ) (i : ℕ) {x y z : ℕ} → (x ≡ 0x4F) ⊎ (x ≡ 0x6F) → get_or s i 0 ≡ x → y ≡ get_or s (i + 1) 0 → y ≡ 0x68 → z ≡ get_or s (i + 2) 0 → eqb z 0x207F ≡ takes_dot (drop i s)
 unfolding takes_dot begins
-returns-then-next-eq-CAPITAL_SIGN c = sym (both c.args.s.now c.args.i (sym c.at-c.ensures ∙ c.if-c-eq79.true) (sym c.at-next.ensures ∙ c.if-next-eq-CAPITAL_SIGN.true))
+h_behind s i (inl o) e f g h = ap (λ (z : ℕ). eqb z 0x207F) h ∙ sym (both s i (e ∙ o) (sym f ∙ g) ∙ alone _)
+h_behind s i (inr o) e f g h = ap (λ (z : ℕ). eqb z 0x207F) h ∙ sym (both s i (e ∙ o) (sym f ∙ g) ∙ alone _)
 
-pub returns-then-next-eq-SMALL_SIGN : goal.returns-then-next-eq-SMALL_SIGN
+pub returns-in-79-eq72 : goal.returns-in-79-eq72
 unfolding takes_dot begins
-returns-then-next-eq-SMALL_SIGN c = sym (both c.args.s.now c.args.i (sym c.at-c.ensures ∙ c.if-c-eq79.true) (sym c.at-next.ensures ∙ c.if-next-eq-SMALL_SIGN.true))
+returns-in-79-eq72 c =
+    ap (λ (z : ℕ). eqb z 0x1D3A) c.at-in-79-eq72.ensures ∙ sym (both c.args.s.now c.args.i c.in-79-eq72.is-0 (sym c.at.ensures ∙ c.in-79-eq72.is-1) ∙ alone _)
 
-pub returns-then-next-eq72 : goal.returns-then-next-eq72
+pub returns-in-79-eq7482 : goal.returns-in-79-eq7482
 unfolding takes_dot begins
-returns-then-next-eq72 c =
-    ap (λ (z : ℕ). eqb z 0x1D3A) c.at.ensures
-    ∙ sym (both c.args.s.now c.args.i (sym c.at-c.ensures ∙ c.if-c-eq79.true) (sym c.at-next.ensures ∙ c.if-next-eq72.true) ∙ alone _)
+returns-in-79-eq7482 c =
+    ⊎_elim
+    (λ e. sym (both c.args.s.now c.args.i c.in-79-eq7482.is-0 (sym c.at.ensures ∙ e)))
+    (λ e. sym (both c.args.s.now c.args.i c.in-79-eq7482.is-0 (sym c.at.ensures ∙ e)))
+    c.in-79-eq7482.is-1
 
-pub returns-then-next-eq104 : goal.returns-then-next-eq104
+pub returns-in-79-eq7482-2 : goal.returns-in-79-eq7482-2
 unfolding takes_dot begins
-returns-then-next-eq104 c =
-    ap (λ (z : ℕ). eqb z 0x207F) c.at-then-next-eq104.ensures
-    ∙ sym (both c.args.s.now c.args.i (sym c.at-c.ensures ∙ c.if-c-eq79.true) (sym c.at-next.ensures ∙ c.if-next-eq104.true) ∙ alone _)
+returns-in-79-eq7482-2 c = sym (both c.args.s.now c.args.i c.in-79-eq7482.is-0 (sym c.at.ensures ∙ c.in-79-eq7482.is-1))
 
-pub returns-then-c-eq79 : goal.returns-then-c-eq79
-returns-then-c-eq79 c =
+pub returns-in-79-eq104 : goal.returns-in-79-eq104
+returns-in-79-eq104 c =
+    elim c.in-79-eq104-1.branch [
+      | in-79+in-104-1 w ↦ h_behind c.args.s.now c.args.i (inl refl) (search rules) c.at.ensures (search rules) c.at-in-79-eq104.ensures
+      | in-111+in-104-1 w ↦ h_behind c.args.s.now c.args.i (inr refl) (search rules) c.at.ensures (search rules) c.at-in-79-eq104.ensures
+    ]
+
+pub returns-in_default : goal.returns-in_default
+returns-in_default c =
     let a = c.args in
-    let e = c.at-next.ensures in
-    sym
-    (both a.s.now a.i (sym c.at-c.ensures ∙ c.if-c-eq79.true) (sym e)
-    ∙ after_capital _ (get_or a.s.now (a.i + 2) 0) c.if-next-eq-CAPITAL_SIGN.false c.if-next-eq-SMALL_SIGN.false c.if-next-eq72.false c.if-next-eq104.false)
+    sym (both a.s.now a.i c.in_default.is-0 (sym c.at.ensures) ∙ after_capital c.at.result (get_or a.s.now (a.i + 2) 0) (search rules) (search rules) (search rules) (search rules))
 
-pub returns-then-next-eq-SMALL_SIGN-2 : goal.returns-then-next-eq-SMALL_SIGN-2
-unfolding takes_dot begins
-returns-then-next-eq-SMALL_SIGN-2 c = sym (both c.args.s.now c.args.i (sym c.at-c.ensures ∙ c.if-c-eq111.true) (sym c.at-next.ensures ∙ c.if-next-eq-SMALL_SIGN-2.true))
-
-pub returns-then-next-eq104-2 : goal.returns-then-next-eq104-2
-unfolding takes_dot begins
-returns-then-next-eq104-2 c =
-    ap (λ (z : ℕ). eqb z 0x207F) c.at-then-next-eq104-2.ensures
-    ∙ sym (both c.args.s.now c.args.i (sym c.at-c.ensures ∙ c.if-c-eq111.true) (sym c.at-next.ensures ∙ c.if-next-eq104-2.true) ∙ alone _)
-
-pub returns-else-next-eq104-2 : goal.returns-else-next-eq104-2
-returns-else-next-eq104-2 c =
+pub returns-in_default-2 : goal.returns-in_default-2
+returns-in_default-2 c =
     let a = c.args in
-    let e = c.at-next.ensures in
-    sym
-    (both a.s.now a.i (sym c.at-c.ensures ∙ c.if-c-eq111.true) (sym e)
-    ∙ after_small _ (get_or a.s.now (a.i + 2) 0) c.if-next-eq-SMALL_SIGN-2.false c.if-next-eq104-2.false)
+    sym (both a.s.now a.i c.in_default.is-0 (sym c.at.ensures) ∙ after_small c.at.result (get_or a.s.now (a.i + 2) 0) (search rules) (search rules))
 
-pub returns-else-c-eq111 : goal.returns-else-c-eq111
-returns-else-c-eq111 c =
+pub returns-in_default-3 : goal.returns-in_default-3
+returns-in_default-3 c =
     let a = c.args in
-    sym
-    (both a.s.now a.i (sym c.at-c.ensures) (sym c.at-next.ensures)
-    ∙ after_other _ _ (get_or a.s.now (a.i + 2) 0) c.if-c-eq79.false c.if-c-eq111.false)
+    sym (both a.s.now a.i refl (sym c.at.ensures) ∙ after_other (get_or a.s.now a.i 0) c.at.result (get_or a.s.now (a.i + 2) 0) (search rules) (search rules))

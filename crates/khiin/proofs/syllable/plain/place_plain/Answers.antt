@@ -1,14 +1,13 @@
-use mathlib.Core.Path.{sym, ap, ◌∙◌, subst}
-use mathlib.Core.List.{List, ◌∷◌, []}
+use mathlib.Core.Path.{sym, ap, ◌∙◌}
+use mathlib.Core.List.{List}
 use Prim.Native.Nat.{ℕ}
 use Rattle.ji.specs.Unicode.{unicode16}
 use Rattle.ji.specs.Utf8.{encode}
 use Rattle.ji.specs.Reply.{placed}
 use Rattle.ji.proofs.lomaji.tone_letter.Laws.{tone_letter_below}
-use Rattle.khiin.specs.Syllable.{mark_of, composed_at, composed_with}
-use Rattle.khiin.specs.Compose.{QuickAs}
+use Rattle.khiin.specs.Syllable.{composed_with}
 use Rattle.khiin.proofs.syllable.marking.Letters.{mark_told}
-use Rattle.khiin.proofs.syllable.plain.Laws.{ascii_encoded, byte_place_told, quick}
+use Rattle.khiin.proofs.syllable.plain.Laws.{ascii_encoded, byte_place_told}
 use Rattle.khiin.proofs.syllable.plain.place_plain.Goals as goal
 
 pub place_joined-requires : goal.place_joined-requires
@@ -19,24 +18,5 @@ pub returns-in-None : goal.returns-in-None
 returns-in-None c =
     λ raw_input e.
     let s = c.args.s.now in
-    quick _ (encode (composed_with unicode16 raw_input s (mark_of c.args.tone))) c.args.out.now _
-    (c.place_bytes.ensures
-    ∙ ap (λ (u : List ℕ). placed 0 u c.args.out.now) (sym (ascii_encoded s c.requires) ∙ ap (λ (mark : List ℕ). encode (composed_with unicode16 raw_input s mark)) (mark_told c.args.tone c.in-None.is c.mark_of.ensures)))
-
-pub returns-in-None-ascii_tone_position : goal.returns-in-None-ascii_tone_position
-returns-in-None-ascii_tone_position c =
-    λ raw_input e.
-    let s = c.args.s.now in
-    quick _ (encode (composed_with unicode16 raw_input s (mark_of c.args.tone))) c.args.out.now _
-    (c.place_bytes-in-None-ascii_tone_position.ensures
-    ∙ ap (λ (u : List ℕ). placed 0 u c.args.out.now)
-    (e ∙ ap encode (ap (composed_at unicode16 raw_input s (c.in-Some.mark ∷ [])) (sym (byte_place_told s c.in-None-ascii_tone_position.is c.ascii_tone_position.ensures)) ∙ ap (composed_with unicode16 raw_input s) (mark_told c.args.tone c.in-Some.is c.mark_of.ensures))))
-
-pub returns-in-Some-ascii_tone_position : goal.returns-in-Some-ascii_tone_position
-returns-in-Some-ascii_tone_position c =
-    λ raw_input e.
-    let s = c.args.s.now in
-    subst (QuickAs _ c.args.out.now _)
-    (ap (λ (u : List ℕ). placed 0 (encode u) c.args.out.now)
-    (ap (composed_at unicode16 raw_input s (c.in-Some.mark ∷ [])) (sym (byte_place_told s c.in-Some-ascii_tone_position.is c.ascii_tone_position.ensures)) ∙ ap (composed_with unicode16 raw_input s) (mark_told c.args.tone c.in-Some.is c.mark_of.ensures)))
-    c.place_joined.ensures
+    c.place_bytes.ensures
+    ∙ ap (λ (u : List ℕ). placed 0 u c.args.out.now) (sym (ascii_encoded s c.requires) ∙ ap (λ (mark : List ℕ). encode (composed_with unicode16 raw_input s mark)) (mark_told c.args.tone c.in-None.is c.mark_of.ensures))

@@ -1,11 +1,11 @@
 use mathlib.Core.Path.{◌≡◌, sym, subst}
 use Prim.Native.Nat.{ℕ}
-use Rattle.khiin.specs.Compose.{Joined}
-use Rattle.khiin.proofs.syllable.marking.Facts.{joined_not}
-use Rattle.khiin.proofs.syllable.marking.joined.Goals as goal
+use Rattle.khiin.specs.Compose.{JoinedAs}
+use Rattle.khiin.specs.declared.syllable.marking.Joined.{Joined}
+use Rattle.khiin.proofs.syllable.marking.join.Goals as goal
 
-known : (x r : ℕ) {mark k : ℕ} → mark ≡ k → Joined x k r → Joined x mark r
-known x r e h = subst (λ (m : ℕ). Joined x m r) (sym e) h
+known : (x : ℕ) (r : Joined) {mark k : ℕ} → mark ≡ k → JoinedAs x k r → JoinedAs x mark r
+known x r e h = subst (λ (m : ℕ). JoinedAs x m r) (sym e) h
 
 pub returns-in-768 : goal.returns-in-768
 returns-in-768 c = known c.args.x c.grave.result c.in-768.is c.grave.ensures
@@ -27,6 +27,3 @@ returns-in-774 c = known c.args.x c.breve.result c.in-774.is c.breve.ensures
 
 pub returns-in-781 : goal.returns-in-781
 returns-in-781 c = known c.args.x c.line.result c.in-781.is c.line.ensures
-
-pub returns-in_default : goal.returns-in_default
-returns-in_default c = joined_not c.args.x c.args.mark
