@@ -1,7 +1,7 @@
 // The telex step: `convert_to_telex`, its text only.
 ghost use Rattle.std.specs.Prelude.{◌≡◌, true, not, ◌||◌, List, [], ◌∷◌, ◌++◌, ℕ, ◌+◌, ◌-◌, ◌*◌, ◌/◌, ◌≤◌, ◌<◌, length, take};
 ghost use Rattle.ji.specs.Unicode.{unicode16, listed};
-ghost use Rattle.ji.specs.Text.{points as points_of, all_ascii};
+ghost use Rattle.ji.specs.Text.{points as points_of, within, all_ascii};
 ghost use Rattle.ji.specs.Utf8.{decode, encode, last_start};
 ghost use Rattle.ji.specs.Reply.{placed, text_call, text_reply, good, check_points};
 ghost use Rattle.ji.specs.Lomaji.ToneLetter.{tone_letter, is_some};
@@ -21,7 +21,7 @@ use ji::unicode::ByteLen;
 use ji::{reply, unicode};
 
 // How tone keys are chosen.
-#[derive(Clone, Copy)]
+#[derive(Clone, Copy, PartialEq, Eq)]
 pub enum ToneMode {
     Numeric,
     Telex,
@@ -41,7 +41,7 @@ pub struct ToneKeys {
 
 // What a key does to a text: it goes behind the stripped text, or takes the place of its last code point, or takes with an e before it the place
 // of the last two; or the text is composed anew.
-#[derive(Clone, Copy)]
+#[derive(Clone, Copy, PartialEq, Eq)]
 enum Edit {
     Behind,
     Last,
@@ -83,39 +83,31 @@ const CAPITAL_U_DOTS: u16 = 0x1E72;
 
 const SPACE: u16 = b' ' as u16;
 
+// Whether `key` is one that may be typed.
+fn is_key(key: u8) -> bool
+    ensures { result ≡ within 0x20 0x7E key }
+{
+    (0x20..=0x7E).contains(&key)
+}
+
 // Whether a tone key may be set to `x`.
 fn is_setting(x: u8) -> bool
     ensures { result ≡ is_setting x }
 {
-    if x < 0x21 {
-        return false;
-    }
-    x <= 0x7E
+    (0x21..=0x7E).contains(&x)
 }
 
 // Whether every tone key may be set as it is.
 fn settings_fit(k: ToneKeys) -> bool
     ensures { result ≡ settings_fit k }
 {
-    if !is_setting(k.t2) {
-        return false;
-    }
-    if !is_setting(k.t3) {
-        return false;
-    }
-    if !is_setting(k.t5) {
-        return false;
-    }
-    if !is_setting(k.t6) {
-        return false;
-    }
-    if !is_setting(k.t7) {
-        return false;
-    }
-    if !is_setting(k.t8) {
-        return false;
-    }
-    is_setting(k.t9)
+    is_setting(k.t2)
+        && is_setting(k.t3)
+        && is_setting(k.t5)
+        && is_setting(k.t6)
+        && is_setting(k.t7)
+        && is_setting(k.t8)
+        && is_setting(k.t9)
 }
 
 // The tone keys: those that are set, or the digits.
@@ -136,7 +128,7 @@ fn keys_in(mode: ToneMode, k: ToneKeys) -> ToneKeys
     }
 }
 
-// The tone of a key, None of any other.
+// The tone of a key, None of any other. The keys are no constants, which a `match` would need.
 fn key_to_tone(k: ToneKeys, key: u16) -> Tone
     ensures { result ≡ key_to_tone k key }
 {
@@ -169,11 +161,9 @@ fn tone_to_key(k: ToneKeys, tone: Tone) -> u16
     ensures { result ≡ tone_to_key k tone }
 {
     match tone {
-        Tone::None => SPACE,
-        Tone::T1 => SPACE,
+        Tone::None | Tone::T1 | Tone::T4 => SPACE,
         Tone::T2 => k.t2 as u16,
         Tone::T3 => k.t3 as u16,
-        Tone::T4 => SPACE,
         Tone::T5 => k.t5 as u16,
         Tone::T6 => k.t6 as u16,
         Tone::T7 => k.t7 as u16,
@@ -187,10 +177,7 @@ fn repeats_tone(k: ToneKeys, key: u16, tone: Tone) -> bool
     ensures { result ≡ repeats_tone k key tone }
 {
     let before = tone_to_key(k, tone);
-    if before == SPACE {
-        return false;
-    }
-    before == lower(key)
+    before != SPACE && before == lower(key)
 }
 
 // e, in the case of the key.
@@ -204,10 +191,7 @@ fn e_like(key: u16) -> u16
 fn is_stop(x: u16) -> bool
     ensures { result ≡ listed (points_of "ptkh") x }
 {
-    match x {
-        P | T | K | H => true,
-        _ => false,
-    }
+    matches!(x, P | T | K | H)
 }
 
 // Whether `body` ends in a stop, whatever stands behind it of ⁿ, ᴺ and nn. `stop` says so of what is passed, and `single` that an n stands
@@ -217,84 +201,45 @@ fn ends_in_stop(body: &[u16]) -> bool
 {
     let mut stop = false;
     let mut single = false;
-    let mut i: usize = 0;
-    while i < body.len() {
-        let x = lower(body[i]);
-        i += 1;
-        if x == SMALL_SIGN {
-            continue;
+    for &x in body {
+        match lower(x) {
+            SMALL_SIGN | CAPITAL_SIGN => {}
+            N => single = !single,
+            low => {
+                single = false;
+                stop = is_stop(low);
+            }
         }
-        if x == CAPITAL_SIGN {
-            continue;
-        }
-        if x == N {
-            single = !single;
-            continue;
-        }
-        single = false;
-        stop = is_stop(x);
     }
-    if single {
-        return false;
-    }
-    stop
+    stop && !single
 }
 
 // The tone of a body whose tone has this key: the key of tone 8 may be shared with another tone, and is tone 8's behind a stop.
 fn shared_or(k: ToneKeys, key: u16, tone: Tone, body: &[u16]) -> Tone
     ensures { result ≡ shared_or k key tone body.now }
 {
-    let eighth = k.t8 as u16;
-    if key == eighth {
-        if ends_in_stop(body) {
-            return Tone::T8;
-        }
-        return key_to_tone(k, eighth);
+    if key != k.t8 as u16 {
+        return tone;
     }
-    tone
+    if ends_in_stop(body) {
+        Tone::T8
+    } else {
+        key_to_tone(k, key)
+    }
 }
 
 // Which branch a text takes, by its end: the last code point, and the last but one in lower case, as the key is.
 fn edit_by(low: u16, before: u16, end: u16) -> Edit
     ensures { result ≡ edit_by low before end }
 {
-    if low == N {
-        if end == SMALL_SIGN {
-            return Edit::Last;
-        }
-        if end == CAPITAL_SIGN {
-            return Edit::Last;
-        }
-        return Edit::Compose;
+    match (low, before, end) {
+        (N, _, SMALL_SIGN | CAPITAL_SIGN) => Edit::Last,
+        (U, O, DOT) => Edit::Last,
+        (O, O, DOT) => Edit::Last,
+        (U, _, SMALL_U_DOTS | CAPITAL_U_DOTS) => Edit::LastTwo,
+        (O, O, DOTS) => Edit::LastTwo,
+        _ => Edit::Compose,
     }
-    if low == U {
-        if end == SMALL_U_DOTS {
-            return Edit::LastTwo;
-        }
-        if end == CAPITAL_U_DOTS {
-            return Edit::LastTwo;
-        }
-        if end == DOT {
-            if before == O {
-                return Edit::Last;
-            }
-        }
-        return Edit::Compose;
-    }
-    if low == O {
-        if end == DOT {
-            if before == O {
-                return Edit::Last;
-            }
-            return Edit::Compose;
-        }
-        if end == DOTS {
-            if before == O {
-                return Edit::LastTwo;
-            }
-        }
-    }
-    Edit::Compose
 }
 
 // Which branch the text takes whose bytes `text` are, unless the key repeats its tone. Its last two code points tell.
@@ -302,12 +247,8 @@ fn edit_at(key: u16, text: &[u8]) -> Edit
     ensures { (given : List ℕ) → check_points unicode16 (decode text.now) ≡ good given → result ≡ edit_at key given }
 {
     let start = unicode::last_start(text);
-    let n = start.0;
-    edit_by(
-        lower(key),
-        lower(unicode::last_point(&text[0..n])),
-        unicode::last_point(text),
-    )
+    let before = unicode::last_point(&text[..start.0]);
+    edit_by(lower(key), lower(before), unicode::last_point(text))
 }
 
 // Which branch a text of this tone takes. It is read only for the keys that open one.
@@ -329,8 +270,7 @@ fn place_key(bytes: &mut [u8], at: usize, key: u8, out: &mut [u8]) -> Result<Byt
     ensures { text_reply result out.new ≡ placed 0 (take at bytes.old ++ (key ∷ [])) out.old }
 {
     bytes[at] = key;
-    let n = at + 1;
-    reply::place_bytes(&bytes[0..n], out)
+    reply::place_bytes(&bytes[..at + 1], out)
 }
 
 // How many bytes the first `n` of `bytes` have without their last code point.
@@ -338,18 +278,14 @@ fn without_last(bytes: &[u8], n: usize) -> usize
     requires { n ≤ length bytes.now }
     ensures { (result ≡ last_start (take n bytes.now)) × (result ≤ n) }
 {
-    let start = unicode::last_start(&bytes[0..n]);
-    start.0
+    unicode::last_start(&bytes[..n]).0
 }
 
 // Whether a text of this tone is one that a tone key gives a tone: it has one other than the first, or a tone letter.
 fn takes_tone(tone: Tone, rest: &[u16]) -> bool
     ensures { result ≡ (not (is_first tone) || is_some (tone_letter rest.now)) }
 {
-    if tone.number() != 1 {
-        return true;
-    }
-    holds_letter(rest)
+    tone.number() != 1 || holds_letter(rest)
 }
 
 // What a key makes of the body: how many code points it has, and its tone.
@@ -364,22 +300,22 @@ fn typed(k: ToneKeys, key: u16, tone: Tone, whole: &[u16], n: usize, len: usize)
     requires { (n ≤ length whole.now) × (len ≤ length whole.now) }
     ensures { (result.len ≤ length whole.now) × (grown key (take n whole.now) ≡ take len whole.now → composed_of unicode16 k key tone (take n whole.now) ≡ compose unicode16 (take n whole.now ++ (key ∷ [])) (take result.len whole.now) result.tone Khin.No) }
 {
-    if takes_tone(tone, &whole[0..n]) {
+    if takes_tone(tone, &whole[..n]) {
         let low = lower(key);
         let named = key_to_tone(k, low);
         if named.is_tone() {
             return Body {
                 len: n,
-                tone: shared_or(k, low, named, &whole[0..n]),
+                tone: shared_or(k, low, named, &whole[..n]),
             };
         }
         return Body {
-            len: len,
-            tone: shared_or(k, tone_to_key(k, tone), tone, &whole[0..len]),
+            len,
+            tone: shared_or(k, tone_to_key(k, tone), tone, &whole[..len]),
         };
     }
     Body {
-        len: len,
+        len,
         tone: Tone::None,
     }
 }
@@ -389,10 +325,7 @@ fn grown_len(key: u16, n: usize) -> usize
     requires { n < 400 }
     ensures { (key ≡ 0x20 → result ≡ n) × ((key ≡ 0x20 → ⊥) → result ≡ n + 1) × (result ≤ n + 1) }
 {
-    if key == SPACE {
-        return n;
-    }
-    n + 1
+    if key == SPACE { n } else { n + 1 }
 }
 
 // Composes the stripped text anew, which stands in the first `n` places of `points`. `raw` are the bytes of it and the key.
@@ -429,11 +362,9 @@ fn compose_in(
     requires { (key ≤ 0x7F) × (n < length bytes.old) × (n ≤ length points.old) × (n + 2 < length points.old) × RestIn bytes.old n }
     ensures { (h : RestIn bytes.old n) → text_reply result out.new ≡ placed 0 (encode (composed_of unicode16 k key tone h.rest)) out.old }
 {
-    let count = unicode::code_points(&bytes[0..n], points)?;
-    let m = count.0;
+    let count = unicode::code_points(&bytes[..n], points)?;
     bytes[n] = key;
-    let end = n + 1;
-    compose_step(k, key as u16, tone, &bytes[0..end], points, m, out)
+    compose_step(k, key as u16, tone, &bytes[..n + 1], points, count.0, out)
 }
 
 // Writes what a branch makes of the stripped text, the first `n` of `bytes`.
@@ -465,20 +396,15 @@ fn finish(
     }
 }
 
-// Copies `text` to the front of `bytes`, as far as it is ASCII, and says whether all of it is.
+// Copies `text` to the front of `bytes`, if it is ASCII, and says whether it is.
 fn copy_ascii(text: &[u8], bytes: &mut [u8]) -> bool
     requires { length text.now ≤ length bytes.old }
     ensures { result ≡ true → (all_ascii text.now ≡ true) × (take (length text.now) bytes.new ≡ text.now) }
 {
-    let mut i: usize = 0;
-    while i < text.len() {
-        let x = text[i];
-        if 0x7F < x {
-            return false;
-        }
-        bytes[i] = x;
-        i += 1;
+    if !text.is_ascii() {
+        return false;
     }
+    bytes[..text.len()].copy_from_slice(text);
     true
 }
 
@@ -492,48 +418,32 @@ fn step_in(
     points: &mut [u16],
     out: &mut [u8],
 ) -> Result<ByteLen, Refusal>
-    requires { (key ≤ 0x7F) × (length text.now ≤ 256) × (5 * length text.now + 4 ≤ 2 * length bytes.old) × (length bytes.old ≤ length points.old) × (length bytes.old + 1 < length points.old) }
+    requires { (key ≤ 0x7F) × (length text.now ≤ 256) × (5 * length text.now + 6 ≤ 2 * length bytes.old) × (length bytes.old ≤ length points.old) }
     ensures { text_reply result out.new ≡ text_call unicode16 (step_of unicode16 k key) text.now out.old }
 {
-    let mut n = text.len();
-    let mut tone = Tone::T1;
-    let mut edit = Edit::Compose;
     if copy_ascii(text, bytes) {
-        tone = strip::unmarked_tone(&bytes[0..n]);
-    } else {
-        match strip::strip_tone_diacritic(&text[0..n], bytes) {
-            Err(why) => {
-                return Err(why);
-            }
-            Ok(result) => {
-                let len = result.len;
-                n = len.0;
-                tone = result.tone;
-                edit = edit_of(k, key as u16, tone, text);
-            }
-        }
+        let tone = strip::unmarked_tone(text);
+        return finish(k, key, tone, Edit::Compose, bytes, text.len(), points, out);
     }
-    finish(k, key, tone, edit, bytes, n, points, out)
+    let stripped = strip::strip_tone_diacritic(text, bytes)?;
+    let tone = stripped.tone;
+    let edit = edit_of(k, key as u16, tone, text);
+    finish(k, key, tone, edit, bytes, stripped.len.0, points, out)
 }
 
-// In buffers for a text of at most 8 bytes, as a syllable is: clearing small ones is quicker. A stripped text has at most five bytes for each two of
-// the text, and the key takes one more.
-fn step_short(k: ToneKeys, key: u8, text: &[u8], out: &mut [u8]) -> Result<ByteLen, Refusal>
-    requires { (key ≤ 0x7F) × (length text.now ≤ 8) }
+// The same in buffers of `N` places: clearing small ones is quicker. A stripped text has at most five bytes for each two of the text, and the key
+// takes one more.
+fn step_with<const N: usize>(
+    k: ToneKeys,
+    key: u8,
+    text: &[u8],
+    out: &mut [u8],
+) -> Result<ByteLen, Refusal>
+    requires { (key ≤ 0x7F) × (length text.now ≤ 256) × (5 * length text.now + 6 ≤ 2 * N) × (N ≤ 65536) }
     ensures { text_reply result out.new ≡ text_call unicode16 (step_of unicode16 k key) text.now out.old }
 {
-    let mut bytes = [0u8; 22];
-    let mut points = [0u16; 24];
-    step_in(k, key, text, &mut bytes, &mut points, out)
-}
-
-// In buffers for a text of at most 256 bytes.
-fn step_long(k: ToneKeys, key: u8, text: &[u8], out: &mut [u8]) -> Result<ByteLen, Refusal>
-    requires { (key ≤ 0x7F) × (length text.now ≤ 256) }
-    ensures { text_reply result out.new ≡ text_call unicode16 (step_of unicode16 k key) text.now out.old }
-{
-    let mut bytes = [0u8; 642];
-    let mut points = [0u16; 644];
+    let mut bytes = [0u8; N];
+    let mut points = [0u16; N];
     step_in(k, key, text, &mut bytes, &mut points, out)
 }
 
@@ -547,21 +457,13 @@ pub fn convert_to_telex(
 ) -> Result<ByteLen, Refusal>
     ensures { text_reply result out.new ≡ telex_call unicode16 mode keys key text.now out.old }
 {
-    if key < 0x20 {
-        return Err(Refusal::Argument);
-    }
-    if 0x7E < key {
-        return Err(Refusal::Argument);
-    }
-    if !settings_fit(keys) {
+    if !is_key(key) || !settings_fit(keys) {
         return Err(Refusal::Argument);
     }
     let k = keys_in(mode, keys);
-    if text.len() <= 8 {
-        return step_short(k, key, text, out);
+    match text.len() {
+        0..=8 => step_with::<24>(k, key, text, out),
+        9..=256 => step_with::<644>(k, key, text, out),
+        _ => Err(Refusal::TooLong),
     }
-    if text.len() <= 256 {
-        return step_long(k, key, text, out);
-    }
-    Err(Refusal::TooLong)
 }

@@ -281,9 +281,9 @@ module _ (key : ℕ) (given text : List ℕ) (is : check_points unicode16 (decod
       ∙ ap last_point (front_bytes given)
       ∙ last_back (but_last 1 given) (members_take (length given - 1) given passed.inside)
 
-  pub edit_read : {low n b before end : ℕ} → low ≡ lower key → n ≡ last_start text → b ≡ last_point (take (n - 0) text) → before ≡ lower b → end ≡ last_point text → edit_by low before end ≡ edit_at key given
+  pub edit_read : {low n b before end : ℕ} → low ≡ lower key → n ≡ last_start text → b ≡ last_point (take n text) → before ≡ lower b → end ≡ last_point text → edit_by low before end ≡ edit_at key given
   edit_read {end = end} el en eb ebefore eend =
-      let b_is = eb ∙ ap (λ (m : ℕ). last_point (take m text)) (sub-zero _ ∙ en) ∙ before_read in
+      let b_is = eb ∙ ap (λ (m : ℕ). last_point (take m text)) en ∙ before_read in
       ap₂ (λ (x y : ℕ). edit_by x y end) el (ebefore ∙ ap lower b_is)
       ∙ ap (edit_by (lower key) (lower (last (but_last 1 given)))) (eend ∙ end_read)
       ∙ sym (edit_at_law key given)

@@ -7,18 +7,12 @@ ghost use Rattle.ji.specs.Text.{points as points_of};
 pub(crate) fn is_first(c: u16) -> bool
     ensures { result ≡ listed (points_of "oOeE") c }
 {
-    match c {
-        0x45 | 0x4F | 0x65 | 0x6F => true,
-        _ => false,
-    }
+    matches!(c, 0x45 | 0x4F | 0x65 | 0x6F)
 }
 
 // The second letter of such a pair: o or u.
 pub(crate) fn is_second(c: u16) -> bool
     ensures { result ≡ listed (points_of "oOuU") c }
 {
-    match c {
-        0x4F | 0x55 | 0x6F | 0x75 => true,
-        _ => false,
-    }
+    matches!(c, 0x4F | 0x55 | 0x6F | 0x75)
 }

@@ -20,11 +20,9 @@ pub(crate) fn mark_of(tone: Tone) -> Option<u16>
     ensures { mark_text result ≡ mark_of tone }
 {
     match tone {
-        Tone::None => None,
-        Tone::T1 => None,
+        Tone::None | Tone::T1 | Tone::T4 => None,
         Tone::T2 => Some(0x0301),
         Tone::T3 => Some(0x0300),
-        Tone::T4 => None,
         Tone::T5 => Some(0x0302),
         Tone::T6 => Some(0x0303),
         Tone::T7 => Some(0x0304),
@@ -201,20 +199,15 @@ pub(crate) fn join(x: u16, mark: u16) -> Joined
 fn is_o(x: u16) -> bool
     ensures { result ≡ listed (points_of "oO") x }
 {
-    match x {
-        0x4F | 0x6F => true,
-        _ => false,
-    }
+    matches!(x, 0x4F | 0x6F)
 }
 
 // Whether `x` stays as it is behind `before`.
 fn stays_behind(before: u16, x: u16) -> bool
     ensures { result ≡ true → stays_behind before x ≡ true }
 {
-    if x < 0xC0 {
-        return true;
-    }
     match x {
+        0..0xC0 => true,
         0x0324 => is_o(before),
         0x0358 | 0x1D3A | 0x207F => true,
         _ => false,

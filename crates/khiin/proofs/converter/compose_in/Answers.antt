@@ -1,8 +1,7 @@
 use Rattle.std.proofs.lemmas.Result.{err_from_is_err_and}
 use mathlib.Core.Path.{◌≡◌, sym, ap, ◌∙◌, subst}
 use mathlib.Core.List.{List, [], ◌∷◌, ◌++◌}
-use Prim.Native.Nat.{ℕ, ◌+◌, ◌-◌, ◌≤◌}
-use native.Mathlib.Nat.{sub-zero}
+use Prim.Native.Nat.{ℕ, ◌+◌, ◌≤◌}
 use lib.ListN.{length, take, set, length-set}
 use lib.Seq.{length-take-le}
 use Rattle.ji.specs.Unicode.{unicode16}
@@ -10,12 +9,12 @@ use Rattle.ji.specs.Utf8.{decode, encode}
 use Rattle.ji.specs.Written.{Written}
 use Rattle.ji.specs.Reply.{placed, good, check_points}
 use Rattle.ji.specs.declared.unicode.CharLen.{CharLen}
-use Rattle.ji.proofs.Writing.{written_length, written_take, stored_key}
+use Rattle.ji.proofs.Writing.{written_length, written_take}
 use Rattle.ji.proofs.Points.{points_done, points_refused}
 use Rattle.ji.proofs.unicode.Checked.{bytes_good, good_same, good_not_bad}
 use Rattle.khiin.specs.Telex.{composed_of, RestIn}
 use Rattle.khiin.proofs.syllable.compose.Reading.{fewer}
-use Rattle.khiin.proofs.converter.Laws.{key_behind}
+use Rattle.khiin.proofs.converter.Laws.{key_behind, key_stored}
 use native.Mathlib.Omega.{arith}
 use Rattle.khiin.proofs.converter.compose_in.Goals as goal
 use Rattle.khiin.proofs.converter.compose_in.Goals.{After-code_points}
@@ -27,23 +26,20 @@ module _ (c : After-code_points) where
   n = c.args.n
 
   abbrev part : List ℕ
-  part = take (n - 0) c.args.bytes.now
+  part = take n c.args.bytes.now
 
   abbrev after : List ℕ
   after = c.code_points.new.out
-
-  part_is : part ≡ take n c.args.bytes.now
-  part_is = ap (λ (m : ℕ). take m c.args.bytes.now) (sub-zero n)
 
   size : length (take n c.args.bytes.now) ≡ n
   size = let p = c.requires.1 in length-take-le n c.args.bytes.now (omega (arith, p))
 
   room : length part ≤ length c.args.points.now
-  room = let p = c.requires.2 in rw part_is (omega (arith, size, p))
+  room = let p = c.requires.2 in omega (arith, size, p)
 
   module _ (h : RestIn c.args.bytes.now n) where
     good_rest : check_points unicode16 (decode part) ≡ good h.rest
-    good_rest = bytes_good part h.rest h.inside (part_is ∙ h.written)
+    good_rest = bytes_good part h.rest h.inside h.written
 
     fewest : length h.rest ≤ n
     fewest = omega (arith, fewer h.rest, ap length h.written, size)
@@ -54,10 +50,10 @@ module _ (c : After-code_points) where
           let g = points_done part c.args.points.now after room c.code_points.ensures len is in
           subst (λ (l : List ℕ). Written c.args.points.now after len.0 l) (good_same (sym g.1 ∙ good_rest)) g.2
 
-      raw_is : take (n + 1 - 0) (set c.args.bytes.now n c.args.key) ≡ encode (take len.0 after ++ (c.args.key ∷ []))
+      raw_is : take (n + 1) (set c.args.bytes.now n c.args.key) ≡ encode (take len.0 after ++ (c.args.key ∷ []))
       raw_is =
           let key = c.args.key in
-          stored_key c.args.bytes.now n key c.requires.1
+          key_stored c.args.bytes.now n key c.requires.1
           ∙ ap (λ (l : List ℕ). l ++ (key ∷ [])) h.written
           ∙ key_behind h.rest key c.requires.0
           ∙ ap (λ (l : List ℕ). encode (l ++ (key ∷ []))) (sym (written_take read))

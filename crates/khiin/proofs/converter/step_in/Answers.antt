@@ -1,11 +1,10 @@
+use Rattle.std.proofs.lemmas.Result.{err_from_is_err_and}
 use Rattle.khiin.specs.declared.converter.ToneKeys.{ToneKeys}
 use mathlib.Core.Path.{◌≡◌, sym, ap, ◌∙◌}
 use mathlib.Core.Bool.{true}
 use mathlib.Core.List.{List}
-use Prim.Native.Nat.{ℕ, ◌-◌, ◌*◌, ◌≤◌}
-use native.Mathlib.Nat.{sub-zero}
+use Prim.Native.Nat.{ℕ, ◌*◌, ◌≤◌}
 use lib.ListN.{length, take}
-use lib.Seq.{take_all}
 use Rattle.ji.specs.Unicode.{unicode16}
 use Rattle.ji.specs.Text.{all_ascii}
 use Rattle.ji.specs.Utf8.{encode, decode}
@@ -26,7 +25,7 @@ use Rattle.khiin.specs.declared.converter.Edit.TheVariants.{Compose}
 use Rattle.khiin.proofs.converter.Laws.{step_is, ascii_step}
 use native.Mathlib.Omega.{arith}
 use Rattle.khiin.proofs.converter.step_in.Goals as goal
-use Rattle.khiin.proofs.converter.step_in.Goals.{Joined-copy_ascii, then-copy_ascii, else-copy_ascii+in-Ok}
+use Rattle.khiin.proofs.converter.step_in.Goals.{After-unmarked_tone-tone, After-edit_of-edit}
 use Rattle.std.specs.Prelude.{Result, Ok}
 use Rattle.ji.specs.declared.reply.Refusal.{Refusal}
 
@@ -51,25 +50,21 @@ module _ (k : ToneKeys) (key : ℕ) (text lent out : List ℕ) (short : length t
           written = same ∙ sym (ascii_bytes text ascii);
         }
 
-    ascii_known : (o : Tone) → o ≡ unmarked_tone (take (length text - 0) copied) → Known copied (length text) o Compose
+    ascii_known : (o : Tone) → o ≡ unmarked_tone text → Known copied (length text) o Compose
     unfolding ascii_in
-    ascii_known o is =
-        let front_is = ap (λ (n : ℕ). take n copied) (sub-zero (length text)) ∙ same in (
-          omega arith,
-          kept,
-          (
-            ascii_in,
-            ap (λ (x : Tone). here (composed_of unicode16 k key x text)) (is ∙ ap unmarked_tone front_is)
-                ∙ ap here (sym (ascii_step k key text ascii))
-                ∙ text_good unicode16 (step_of unicode16 k key) text out text (check_within_law unicode16 text short ∙ ascii_good text ascii),
-          ),
-        )
+    ascii_known o is = (
+      omega arith,
+      kept,
+      (
+        ascii_in,
+        ap (λ (x : Tone). here (composed_of unicode16 k key x text)) is
+            ∙ ap here (sym (ascii_step k key text ascii))
+            ∙ text_good unicode16 (step_of unicode16 k key) text out text (check_within_law unicode16 text short ∙ ascii_good text ascii),
+      ),
+    )
 
   -- ── any other text was stripped into `bytes`, where `before` stood
-  module _ (before bytes : List ℕ) (s : Result StripResult Refusal) (ensured : strip_reply s bytes ≡ strip_call unicode16 (take (length text - 0) text) before) where
-    called : strip_reply s bytes ≡ strip_call unicode16 text before
-    called = ensured ∙ ap (λ (l : List ℕ). strip_call unicode16 l before) (take_all (length text - 0) text (omega arith))
-
+  module _ (before bytes : List ℕ) (s : Result StripResult Refusal) (called : strip_reply s bytes ≡ strip_call unicode16 text before) where
     -- and the branch is known
     module _ (kept : length before ≡ length lent) (r : StripResult) (is : s ≡ Ok r) where
       stripping : Stripping text before bytes r
@@ -112,44 +107,53 @@ module _ (k : ToneKeys) (key : ℕ) (text lent out : List ℕ) (short : length t
         unfolding rest_in
         stripped_known = (bytes_few, written_length stripping.written ∙ kept, (rest_in, finished))
 
--- either way
-known : (c : Joined-copy_ascii) → Known c.args.k c.args.key c.args.text.now c.args.bytes.now c.args.out.now c.requires.1 c.if-copy_ascii.bytes c.if-copy_ascii.n c.if-copy_ascii.tone c.if-copy_ascii.edit
-known c =
-    elim c.if-copy_ascii.branch [
-      | then-copy_ascii w ↦
-          let ascii = c.copy_ascii.ensures w.if-copy_ascii.true in
-          rw (w.bytes-is, w.n-is, w.tone-is, w.edit-is)
-          (ascii_known c.args.k c.args.key c.args.text.now c.args.bytes.now c.args.out.now c.requires.1 c.copy_ascii.new.bytes c.copy_ascii.auto.bytes ascii.0 ascii.1
-          w.unmarked_tone-tone.result w.unmarked_tone-tone.ensures)
-      | else-copy_ascii+in-Ok w ↦
-          rw (w.bytes-is, w.n-is, w.tone-is, w.edit-is)
-          (stripped_known c.args.k c.args.key c.args.text.now c.args.bytes.now c.args.out.now c.requires.1 c.copy_ascii.new.bytes w.strip_tone_diacritic.new.out
-          w.strip_tone_diacritic.result w.strip_tone_diacritic.ensures c.copy_ascii.auto.bytes w.in-Ok.result w.in-Ok.is
-          w.edit_of-edit.result w.edit_of-edit.ensures)
-    ]
-
 pub copy_ascii-requires : goal.copy_ascii-requires
 copy_ascii-requires c = let p = c.requires.2 in omega (arith, p)
 
-pub slice_bounds-unmarked_tone-end : goal.slice_bounds-unmarked_tone-end
-slice_bounds-unmarked_tone-end c =
-    let p = c.requires.2 in
-    omega (arith, p, c.copy_ascii.auto.bytes)
-
-pub returns-in-Err : goal.returns-in-Err
-returns-in-Err c =
-    let room : 5 * length c.args.text.now ≤ 2 * length c.copy_ascii.new.bytes = let p = c.requires.2 in omega (arith, p, c.copy_ascii.auto.bytes) in
-    text_refused unicode16 (step_of unicode16 c.args.k c.args.key) c.args.text.now c.args.out.now c.in-Err.why
-    (strip_not c.args.text.now c.copy_ascii.new.bytes c.strip_tone_diacritic.new.out c.in-Err.why room
-    (ap (λ (x : Result StripResult Refusal). strip_reply x c.strip_tone_diacritic.new.out) (sym c.in-Err.is)
-    ∙ called c.args.k c.args.key c.args.text.now c.args.bytes.now c.args.out.now c.requires.1 c.copy_ascii.new.bytes c.strip_tone_diacritic.new.out c.strip_tone_diacritic.result c.strip_tone_diacritic.ensures))
+-- an ASCII text
+known : (c : After-unmarked_tone-tone) → Known c.args.k c.args.key c.args.text.now c.args.bytes.now c.args.out.now c.requires.1 c.copy_ascii.new.bytes (length c.args.text.now) c.unmarked_tone-tone.result Compose
+known c =
+    let ascii = c.copy_ascii.ensures c.if-copy_ascii.true in
+    ascii_known c.args.k c.args.key c.args.text.now c.args.bytes.now c.args.out.now c.requires.1 c.copy_ascii.new.bytes c.copy_ascii.auto.bytes ascii.0 ascii.1 c.unmarked_tone-tone.result c.unmarked_tone-tone.ensures
 
 pub finish-requires : goal.finish-requires
 finish-requires c =
-    let n = known (goal.at.finish-requires c).Joined-copy_ascii in
-    (c.requires.0, omega (arith, n.0, n.1, c.requires.2), omega (arith, n.0, c.requires.2, c.requires.3), omega (arith, n.0, c.requires.2, c.requires.4), n.2.0)
+    let n = known (goal.at-finish-requires c).After-unmarked_tone-tone in
+    let q = c.requires.2 in
+    let r = c.requires.3 in
+    (c.requires.0, omega (arith, n.0, n.1, q), omega (arith, n.0, q, r), omega (arith, n.0, q, r), n.2.0)
+
+pub returns-then-copy_ascii : goal.returns-then-copy_ascii
+returns-then-copy_ascii c =
+    let n = known (goal.at-returns-then-copy_ascii c).After-unmarked_tone-tone in
+    c.finish.ensures n.2.0 ∙ n.2.1
+
+pub returns-in_err-stripped : goal.returns-in_err-stripped
+returns-in_err-stripped c =
+    let p = err_from_is_err_and c.from_residual.result c.from_residual.ensures.1 in
+    let a = c.args in
+    let why = c.in_err-stripped.field-0.0 in
+    let room : 5 * length a.text.now ≤ 2 * length c.copy_ascii.new.bytes = let q = c.requires.2 in omega (arith, q, c.copy_ascii.auto.bytes) in
+    rw (p.1, p.2)
+    (text_refused unicode16 (step_of unicode16 a.k a.key) a.text.now a.out.now why
+    (strip_not a.text.now c.copy_ascii.new.bytes c.strip_tone_diacritic.new.out why room
+    (ap (λ (x : Result StripResult Refusal). strip_reply x c.strip_tone_diacritic.new.out) (sym c.in_err-stripped.was) ∙ c.strip_tone_diacritic.ensures)))
+
+-- any other
+other : (c : After-edit_of-edit) → Known c.args.k c.args.key c.args.text.now c.args.bytes.now c.args.out.now c.requires.1 c.strip_tone_diacritic.new.out c.in_ok-stripped.stripped.len.0 c.in_ok-stripped.stripped.tone c.edit_of-edit.result
+other c =
+    stripped_known c.args.k c.args.key c.args.text.now c.args.bytes.now c.args.out.now c.requires.1 c.copy_ascii.new.bytes c.strip_tone_diacritic.new.out
+    c.strip_tone_diacritic.result c.strip_tone_diacritic.ensures c.copy_ascii.auto.bytes c.in_ok-stripped.stripped c.in_ok-stripped.was
+    c.edit_of-edit.result c.edit_of-edit.ensures
+
+pub finish-requires-2 : goal.finish-requires-2
+finish-requires-2 c =
+    let n = other (goal.at-finish-requires-2 c).After-edit_of-edit in
+    let q = c.requires.2 in
+    let r = c.requires.3 in
+    (c.requires.0, omega (arith, n.0, n.1, q), omega (arith, n.0, q, r), omega (arith, n.0, q, r), n.2.0)
 
 pub returns : goal.returns
 returns c =
-    let n = known (goal.at.returns c).Joined-copy_ascii in
-    c.finish.ensures n.2.0 ∙ n.2.1
+    let n = other (goal.at-returns c).After-edit_of-edit in
+    c.finish-2.ensures n.2.0 ∙ n.2.1

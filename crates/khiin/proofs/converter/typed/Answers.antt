@@ -1,33 +1,28 @@
-use mathlib.Core.Path.{◌≡◌, sym, ap, ◌∙◌}
+use mathlib.Core.Path.{◌≡◌, sym, ◌∙◌}
 use mathlib.Core.Bool.{Bool, not, ◌||◌}
 use mathlib.Core.List.{List}
-use Prim.Native.Nat.{ℕ, ◌-◌}
-use native.Mathlib.Nat.{sub-zero}
+use Prim.Native.Nat.{ℕ}
 use lib.ListN.{take}
 use Rattle.ji.specs.Unicode.{unicode16}
 use Rattle.ji.specs.Lomaji.ToneLetter.{tone_letter, is_some}
 use Rattle.ji.specs.declared.tone.Tone.{Tone}
-use Rattle.khiin.specs.Converter.{shared_or, is_first}
-use Rattle.khiin.specs.declared.converter.ToneKeys.{ToneKeys}
+use Rattle.khiin.specs.Converter.{is_first}
 use Rattle.khiin.proofs.converter.Laws.{composed_toned, composed_joined, composed_bare}
 use Rattle.khiin.proofs.converter.typed.Goals as goal
 
 -- what was said of a part `[0..n]`
-takes : (w : List ℕ) (n : ℕ) (tone : Tone) {r b : Bool} → r ≡ (not (is_first tone) || is_some (tone_letter (take (n - 0) w))) → r ≡ b → (not (is_first tone) || is_some (tone_letter (take n w))) ≡ b
-takes w n tone e f = ap (λ (m : ℕ). not (is_first tone) || is_some (tone_letter (take m w))) (sym (sub-zero n)) ∙ sym e ∙ f
-
-spoken : (w : List ℕ) (n : ℕ) (k : ToneKeys) (key : ℕ) (tone : Tone) {o : Tone} → o ≡ shared_or k key tone (take (n - 0) w) → o ≡ shared_or k key tone (take n w)
-spoken w n k key tone e = e ∙ ap (λ (m : ℕ). shared_or k key tone (take m w)) (sub-zero n)
+takes : (w : List ℕ) (n : ℕ) (tone : Tone) {r b : Bool} → r ≡ (not (is_first tone) || is_some (tone_letter (take n w))) → r ≡ b → (not (is_first tone) || is_some (tone_letter (take n w))) ≡ b
+takes w n tone e f = sym e ∙ f
 
 pub returns-then-is_tone : goal.returns-then-is_tone
 returns-then-is_tone c =
     let w = c.args.whole.now in
-    (c.requires.0, λ g. sym (composed_toned unicode16 c.args.k c.args.key c.args.tone (take c.args.n w) _ _ _ (takes w c.args.n c.args.tone c.takes_tone.ensures c.if-takes_tone.true) c.lower-low.ensures c.key_to_tone-named.ensures (sym c.is_tone.ensures ∙ c.if-is_tone.true) (spoken w c.args.n c.args.k c.lower-low.result c.key_to_tone-named.result c.shared_or.ensures)))
+    (c.requires.0, λ g. sym (composed_toned unicode16 c.args.k c.args.key c.args.tone (take c.args.n w) _ _ _ (takes w c.args.n c.args.tone c.takes_tone.ensures c.if-takes_tone.true) c.lower-low.ensures c.key_to_tone-named.ensures (sym c.is_tone.ensures ∙ c.if-is_tone.true) c.shared_or.ensures))
 
 pub returns-then-takes_tone : goal.returns-then-takes_tone
 returns-then-takes_tone c =
     let w = c.args.whole.now in
-    (c.requires.1, λ g. sym (composed_joined unicode16 c.args.k c.args.key c.args.tone (take c.args.n w) _ _ _ _ (take c.args.len w) (takes w c.args.n c.args.tone c.takes_tone.ensures c.if-takes_tone.true) c.lower-low.ensures c.key_to_tone-named.ensures (sym c.is_tone.ensures ∙ c.if-is_tone.false) c.tone_to_key.ensures (sym g) (spoken w c.args.len c.args.k c.tone_to_key.result c.args.tone c.shared_or-then-takes_tone.ensures)))
+    (c.requires.1, λ g. sym (composed_joined unicode16 c.args.k c.args.key c.args.tone (take c.args.n w) _ _ _ _ (take c.args.len w) (takes w c.args.n c.args.tone c.takes_tone.ensures c.if-takes_tone.true) c.lower-low.ensures c.key_to_tone-named.ensures (sym c.is_tone.ensures ∙ c.if-is_tone.false) c.tone_to_key.ensures (sym g) c.shared_or-then-takes_tone.ensures))
 
 pub returns : goal.returns
 returns c =

@@ -1,14 +1,20 @@
-use mathlib.Core.Path.{refl}
+use mathlib.Core.Path.{◌≡◌, refl}
+use mathlib.Core.List.{[]}
+use mathlib.Core.Logic.{◌⊎◌, inl, inr}
+use Rattle.ji.specs.declared.tone.Tone.{Tone}
+use Rattle.ji.specs.declared.tone.Tone.TheVariants.{None, T1, T4}
 use Rattle.khiin.specs.Syllable.{mark_of}
 use Rattle.khiin.proofs.syllable.marking.mark_of.Goals as goal
 
-pub returns-in-None : goal.returns-in-None
+-- the tones without a mark
+unmarked : (tone : Tone) → (tone ≡ None) ⊎ ((tone ≡ T1) ⊎ (tone ≡ T4)) → [] ≡ mark_of tone
 unfolding mark_of
-returns-in-None c = rw c.in-None.is refl
+unmarked tone (inl e) = rw e refl
+unmarked tone (inr (inl e)) = rw e refl
+unmarked tone (inr (inr e)) = rw e refl
 
-pub returns-in-T1 : goal.returns-in-T1
-unfolding mark_of
-returns-in-T1 c = rw c.in-T1.is refl
+pub returns-in-None : goal.returns-in-None
+returns-in-None c = unmarked c.args.tone c.in-None.is
 
 pub returns-in-T2 : goal.returns-in-T2
 unfolding mark_of
@@ -17,10 +23,6 @@ returns-in-T2 c = rw c.in-T2.is refl
 pub returns-in-T3 : goal.returns-in-T3
 unfolding mark_of
 returns-in-T3 c = rw c.in-T3.is refl
-
-pub returns-in-T4 : goal.returns-in-T4
-unfolding mark_of
-returns-in-T4 c = rw c.in-T4.is refl
 
 pub returns-in-T5 : goal.returns-in-T5
 unfolding mark_of

@@ -2,10 +2,9 @@ use mathlib.Core.Path.{◌≡◌, refl, sym, ap, ◌∙◌}
 use mathlib.Core.Bool.{true}
 use mathlib.Core.Logic.{⊎_elim}
 use Prim.Native.Nat.{ℕ}
-use borrow.Author.Tests.{lt-ltb}
 use Rattle.ji.specs.Text.{points}
 use Rattle.ji.specs.Unicode.{listed}
-use Rattle.ji.proofs.Bools.{false_true, or_yes}
+use Rattle.ji.proofs.Bools.{false_true}
 use Rattle.khiin.specs.Compose.{stays_behind}
 use Rattle.khiin.proofs.syllable.marking.stays_behind.Goals as goal
 
@@ -15,9 +14,6 @@ at before k h x e = ap (stays_behind before) e ∙ h
 dots : (before : ℕ) → listed (points "oO") before ≡ true → stays_behind before 0x0324 ≡ true
 unfolding listed
 dots before e = e
-
-pub returns-then-x-lt192 : goal.returns-then-x-lt192
-returns-then-x-lt192 c = λ e. or_yes _ _ (or_yes _ _ (lt-ltb _ _ c.if-x-lt192.true))
 
 pub returns-in-804 : goal.returns-in-804
 returns-in-804 c =
