@@ -172,14 +172,6 @@ fn tone_to_key(k: ToneKeys, tone: Tone) -> u16
     }
 }
 
-// Whether the key of the text's tone is typed again.
-fn repeats_tone(k: ToneKeys, key: u16, tone: Tone) -> bool
-    ensures { result ≡ repeats_tone k key tone }
-{
-    let before = tone_to_key(k, tone);
-    before != SPACE && before == lower(key)
-}
-
 // e, in the case of the key.
 fn e_like(key: u16) -> u16
     ensures { result ≡ e_like key }
@@ -251,19 +243,6 @@ fn edit_at(key: u16, text: &[u8]) -> Edit
     edit_by(lower(key), lower(before), unicode::last_point(text))
 }
 
-// Which branch a text of this tone takes. It is read only for the keys that open one.
-fn edit_of(k: ToneKeys, key: u16, tone: Tone, text: &[u8]) -> Edit
-    ensures { (given : List ℕ) → check_points unicode16 (decode text.now) ≡ good given → result ≡ edit_of k key tone given }
-{
-    if repeats_tone(k, key, tone) {
-        return Edit::Behind;
-    }
-    match lower(key) {
-        N | O | U => edit_at(key, text),
-        _ => Edit::Compose,
-    }
-}
-
 // Writes the first `at` bytes of `bytes`, and the key behind them.
 fn place_key(bytes: &mut [u8], at: usize, key: u8, out: &mut [u8]) -> Result<ByteLen, Refusal>
     requires { at < length bytes.old }
@@ -295,31 +274,6 @@ struct Body {
     tone: Tone,
 }
 
-// The body and the tone when a key is typed behind the stripped text, with which `whole` begins; `len` is its length if the key joins it.
-fn typed(k: ToneKeys, key: u16, tone: Tone, whole: &[u16], n: usize, len: usize) -> Body
-    requires { (n ≤ length whole.now) × (len ≤ length whole.now) }
-    ensures { (result.len ≤ length whole.now) × (grown key (take n whole.now) ≡ take len whole.now → composed_of unicode16 k key tone (take n whole.now) ≡ compose unicode16 (take n whole.now ++ (key ∷ [])) (take result.len whole.now) result.tone Khin.No) }
-{
-    if takes_tone(tone, &whole[..n]) {
-        let low = lower(key);
-        let named = key_to_tone(k, low);
-        if named.is_tone() {
-            return Body {
-                len: n,
-                tone: shared_or(k, low, named, &whole[..n]),
-            };
-        }
-        return Body {
-            len,
-            tone: shared_or(k, tone_to_key(k, tone), tone, &whole[..len]),
-        };
-    }
-    Body {
-        len,
-        tone: Tone::None,
-    }
-}
-
 // How many code points a body of `n` has if the key joins it. A space joins none.
 fn grown_len(key: u16, n: usize) -> usize
     requires { n < 400 }
@@ -328,71 +282,126 @@ fn grown_len(key: u16, n: usize) -> usize
     if key == SPACE { n } else { n + 1 }
 }
 
-// Composes the stripped text anew, which stands in the first `n` places of `points`. `raw` are the bytes of it and the key.
-fn compose_step(
-    k: ToneKeys,
-    key: u16,
+// A key that is typed behind a text of this tone, and the tone keys.
+#[derive(Clone, Copy)]
+struct Step {
+    keys: ToneKeys,
+    key: u8,
     tone: Tone,
-    raw: &[u8],
-    points: &mut [u16],
-    n: usize,
-    out: &mut [u8],
-) -> Result<ByteLen, Refusal>
-    requires { (n < 400) × (n + 2 < length points.old) × (raw.now ≡ encode (take n points.old ++ (key ∷ []))) }
-    ensures { text_reply result out.new ≡ placed 0 (encode (composed_of unicode16 k key tone (take n points.old))) out.old }
-{
-    points[n] = key;
-    let body = typed(k, key, tone, &points[..n + 1], n, grown_len(key, n));
-    if let Some(answer) = compose_plain(raw, &raw[..body.len], body.tone, Khin::No, out) {
-        return answer;
+}
+
+impl Step {
+    // Whether the key of the text's tone is typed again.
+    fn repeats_tone(self) -> bool
+        ensures { result ≡ repeats_tone self.keys self.key self.tone }
+    {
+        let before = tone_to_key(self.keys, self.tone);
+        before != SPACE && before == lower(self.key as u16)
     }
-    compose_points(raw, points, body.len, body.tone, Khin::No, out)
-}
 
-// Reads the stripped text, the first `n` of `bytes`, into `points`, and composes it anew.
-fn compose_in(
-    k: ToneKeys,
-    key: u8,
-    tone: Tone,
-    bytes: &mut [u8],
-    n: usize,
-    points: &mut [u16],
-    out: &mut [u8],
-) -> Result<ByteLen, Refusal>
-    requires { (key ≤ 0x7F) × (n < length bytes.old) × (n ≤ length points.old) × (n + 2 < length points.old) × RestIn bytes.old n }
-    ensures { (h : RestIn bytes.old n) → text_reply result out.new ≡ placed 0 (encode (composed_of unicode16 k key tone h.rest)) out.old }
-{
-    let count = unicode::code_points(&bytes[..n], points)?;
-    bytes[n] = key;
-    compose_step(k, key as u16, tone, &bytes[..n + 1], points, count.0, out)
-}
+    // Which branch a text of this tone takes. It is read only for the keys that open one.
+    fn edit_of(self, text: &[u8]) -> Edit
+        ensures { (given : List ℕ) → check_points unicode16 (decode text.now) ≡ good given → result ≡ edit_of self.keys self.key self.tone given }
+    {
+        if self.repeats_tone() {
+            return Edit::Behind;
+        }
+        match lower(self.key as u16) {
+            N | O | U => edit_at(self.key as u16, text),
+            _ => Edit::Compose,
+        }
+    }
 
-// Writes what a branch makes of the stripped text, the first `n` of `bytes`.
-fn finish(
-    k: ToneKeys,
-    key: u8,
-    tone: Tone,
-    edit: Edit,
-    bytes: &mut [u8],
-    n: usize,
-    points: &mut [u16],
-    out: &mut [u8],
-) -> Result<ByteLen, Refusal>
-    requires { (key ≤ 0x7F) × (n + 1 < length bytes.old) × (n ≤ length points.old) × (n + 2 < length points.old) × RestIn bytes.old n }
-    ensures { (h : RestIn bytes.old n) → text_reply result out.new ≡ placed 0 (encode (edited unicode16 k edit key tone h.rest)) out.old }
-{
-    match edit {
-        Edit::Behind => place_key(bytes, n, key, out),
-        Edit::Last => {
-            let at = without_last(bytes, n);
-            place_key(bytes, at, key, out)
+    // The body and the tone when a key is typed behind the stripped text, with which `whole` begins; `len` is its length if the key joins it.
+    fn typed(self, whole: &[u16], n: usize, len: usize) -> Body
+        requires { (n ≤ length whole.now) × (len ≤ length whole.now) }
+        ensures { (result.len ≤ length whole.now) × (grown self.key (take n whole.now) ≡ take len whole.now → composed_of unicode16 self.keys self.key self.tone (take n whole.now) ≡ compose unicode16 (take n whole.now ++ (self.key ∷ [])) (take result.len whole.now) result.tone Khin.No) }
+    {
+        if takes_tone(self.tone, &whole[..n]) {
+            let low = lower(self.key as u16);
+            let named = key_to_tone(self.keys, low);
+            if named.is_tone() {
+                return Body {
+                    len: n,
+                    tone: shared_or(self.keys, low, named, &whole[..n]),
+                };
+            }
+            return Body {
+                len,
+                tone: shared_or(
+                    self.keys,
+                    tone_to_key(self.keys, self.tone),
+                    self.tone,
+                    &whole[..len],
+                ),
+            };
         }
-        Edit::LastTwo => {
-            let at = without_last(bytes, without_last(bytes, n));
-            bytes[at] = e_like(key as u16) as u8;
-            place_key(bytes, at + 1, key, out)
+        Body {
+            len,
+            tone: Tone::None,
         }
-        Edit::Compose => compose_in(k, key, tone, bytes, n, points, out),
+    }
+
+    // Composes the stripped text anew, which stands in the first `n` places of `points`. `raw` are the bytes of it and the key.
+    fn compose_step(
+        self,
+        raw: &[u8],
+        points: &mut [u16],
+        n: usize,
+        out: &mut [u8],
+    ) -> Result<ByteLen, Refusal>
+        requires { (n < 400) × (n + 2 < length points.old) × (raw.now ≡ encode (take n points.old ++ (self.key ∷ []))) }
+        ensures { text_reply result out.new ≡ placed 0 (encode (composed_of unicode16 self.keys self.key self.tone (take n points.old))) out.old }
+    {
+        points[n] = self.key as u16;
+        let body = self.typed(&points[..n + 1], n, grown_len(self.key as u16, n));
+        if let Some(answer) = compose_plain(raw, &raw[..body.len], body.tone, Khin::No, out) {
+            return answer;
+        }
+        compose_points(raw, points, body.len, body.tone, Khin::No, out)
+    }
+
+    // Reads the stripped text, the first `n` of `bytes`, into `points`, and composes it anew.
+    fn compose_in(
+        self,
+        bytes: &mut [u8],
+        n: usize,
+        points: &mut [u16],
+        out: &mut [u8],
+    ) -> Result<ByteLen, Refusal>
+        requires { (self.key ≤ 0x7F) × (n < length bytes.old) × (n ≤ length points.old) × (n + 2 < length points.old) × RestIn bytes.old n }
+        ensures { (h : RestIn bytes.old n) → text_reply result out.new ≡ placed 0 (encode (composed_of unicode16 self.keys self.key self.tone h.rest)) out.old }
+    {
+        let count = unicode::code_points(&bytes[..n], points)?;
+        bytes[n] = self.key;
+        self.compose_step(&bytes[..n + 1], points, count.0, out)
+    }
+
+    // Writes what a branch makes of the stripped text, the first `n` of `bytes`.
+    fn finish(
+        self,
+        edit: Edit,
+        bytes: &mut [u8],
+        n: usize,
+        points: &mut [u16],
+        out: &mut [u8],
+    ) -> Result<ByteLen, Refusal>
+        requires { (self.key ≤ 0x7F) × (n + 1 < length bytes.old) × (n ≤ length points.old) × (n + 2 < length points.old) × RestIn bytes.old n }
+        ensures { (h : RestIn bytes.old n) → text_reply result out.new ≡ placed 0 (encode (edited unicode16 self.keys edit self.key self.tone h.rest)) out.old }
+    {
+        match edit {
+            Edit::Behind => place_key(bytes, n, self.key, out),
+            Edit::Last => {
+                let at = without_last(bytes, n);
+                place_key(bytes, at, self.key, out)
+            }
+            Edit::LastTwo => {
+                let at = without_last(bytes, without_last(bytes, n));
+                bytes[at] = e_like(self.key as u16) as u8;
+                place_key(bytes, at + 1, self.key, out)
+            }
+            Edit::Compose => self.compose_in(bytes, n, points, out),
+        }
     }
 }
 
@@ -423,12 +432,17 @@ fn step_in(
 {
     if copy_ascii(text, bytes) {
         let tone = strip::unmarked_tone(text);
-        return finish(k, key, tone, Edit::Compose, bytes, text.len(), points, out);
+        let step = Step { keys: k, key, tone };
+        return step.finish(Edit::Compose, bytes, text.len(), points, out);
     }
     let stripped = strip::strip_tone_diacritic(text, bytes)?;
-    let tone = stripped.tone;
-    let edit = edit_of(k, key as u16, tone, text);
-    finish(k, key, tone, edit, bytes, stripped.len.0, points, out)
+    let step = Step {
+        keys: k,
+        key,
+        tone: stripped.tone,
+    };
+    let edit = step.edit_of(text);
+    step.finish(edit, bytes, stripped.len.0, points, out)
 }
 
 // The same in buffers of `N` places: clearing small ones is quicker. A stripped text has at most five bytes for each two of the text, and the key

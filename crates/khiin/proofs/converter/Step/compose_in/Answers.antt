@@ -16,8 +16,8 @@ use Rattle.khiin.specs.Telex.{composed_of, RestIn}
 use Rattle.khiin.proofs.syllable.compose.Reading.{fewer}
 use Rattle.khiin.proofs.converter.Laws.{key_behind, key_stored}
 use native.Mathlib.Omega.{arith}
-use Rattle.khiin.proofs.converter.compose_in.Goals as goal
-use Rattle.khiin.proofs.converter.compose_in.Goals.{After-code_points}
+use Rattle.khiin.proofs.converter.Step.compose_in.Goals as goal
+use Rattle.khiin.proofs.converter.Step.compose_in.Goals.{After-code_points}
 use Rattle.std.specs.Prelude.{Ok}
 
 -- the stripped text was read
@@ -50,9 +50,9 @@ module _ (c : After-code_points) where
           let g = points_done part c.args.points.now after room c.code_points.ensures len is in
           subst (λ (l : List ℕ). Written c.args.points.now after len.0 l) (good_same (sym g.1 ∙ good_rest)) g.2
 
-      raw_is : take (n + 1) (set c.args.bytes.now n c.args.key) ≡ encode (take len.0 after ++ (c.args.key ∷ []))
+      raw_is : take (n + 1) (set c.args.bytes.now n c.args.self.key) ≡ encode (take len.0 after ++ (c.args.self.key ∷ []))
       raw_is =
-          let key = c.args.key in
+          let key = c.args.self.key in
           key_stored c.args.bytes.now n key c.requires.1
           ∙ ap (λ (l : List ℕ). l ++ (key ∷ [])) h.written
           ∙ key_behind h.rest key c.requires.0
@@ -62,7 +62,7 @@ pub bounds-bytes-n : goal.bounds-bytes-n
 bounds-bytes-n c = c.requires.1
 
 pub slice_bounds-compose_step-end : goal.slice_bounds-compose_step-end
-slice_bounds-compose_step-end c = omega (arith, c.requires.1, length-set c.args.bytes.now c.args.n c.args.key)
+slice_bounds-compose_step-end c = omega (arith, c.requires.1, length-set c.args.bytes.now c.args.n c.args.self.key)
 
 pub compose_step-requires : goal.compose_step-requires
 compose_step-requires c =
@@ -80,4 +80,4 @@ pub returns : goal.returns
 returns c =
     λ h.
     c.compose_step.ensures
-    ∙ ap (λ (l : List ℕ). placed 0 (encode (composed_of unicode16 c.args.k c.args.key c.args.tone l)) c.args.out.now) (written_take (read (goal.at.returns c).After-code_points h c.in_ok-count.count c.in_ok-count.was))
+    ∙ ap (λ (l : List ℕ). placed 0 (encode (composed_of unicode16 c.args.self.keys c.args.self.key c.args.self.tone l)) c.args.out.now) (written_take (read (goal.at.returns c).After-code_points h c.in_ok-count.count c.in_ok-count.was))

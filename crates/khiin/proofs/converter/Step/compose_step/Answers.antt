@@ -21,7 +21,7 @@ use Rattle.khiin.specs.declared.converter.ToneKeys.{ToneKeys}
 use Rattle.khiin.proofs.syllable.plain.Laws.{front_ascii}
 use Rattle.khiin.proofs.converter.Laws.{key_stored}
 use native.Mathlib.Omega.{arith}
-use Rattle.khiin.proofs.converter.compose_step.Goals as goal
+use Rattle.khiin.proofs.converter.Step.compose_step.Goals as goal
 
 module _ (p : List ℕ) (n key : ℕ) (h : n + 2 < length p) where
   abbrev stored : List ℕ
@@ -79,13 +79,13 @@ module _ (p : List ℕ) (n key : ℕ) (h : n + 2 < length p) where
 
 pub typed-body-requires : goal.typed-body-requires
 typed-body-requires c =
-    let s = size c.args.points.now c.args.n c.args.key c.requires.1 in
+    let s = size c.args.points.now c.args.n c.args.self.key c.requires.1 in
     (omega (arith, s), omega (arith, s, c.grown_len.ensures.2))
 
 pub slice_bounds-compose_plain-end : goal.slice_bounds-compose_plain-end
 slice_bounds-compose_plain-end c =
-    let s = size c.args.points.now c.args.n c.args.key c.requires.1 in
-    let more = raw_long c.args.points.now c.args.n c.args.key c.requires.1 c.args.raw.now c.requires.2 in
+    let s = size c.args.points.now c.args.n c.args.self.key c.requires.1 in
+    let more = raw_long c.args.points.now c.args.n c.args.self.key c.requires.1 c.args.raw.now c.requires.2 in
     sym (length-take-le c.typed-body.result.len c.args.raw.now (omega (arith, c.typed-body.ensures.0, s, more)))
 
 pub returns-in-Some : goal.returns-in-Some
@@ -93,21 +93,21 @@ returns-in-Some c =
     let a = c.args in
     let here : List ℕ → Reply = λ l. placed 0 (encode l) a.out.now in
     c.in-Some.ensures.1 _ c.requires.2
-    ∙ ap (λ (b : List ℕ). here (compose unicode16 (take a.n a.points.now ++ (a.key ∷ [])) b c.typed-body.result.tone No))
-    (body_same a.points.now a.n a.key c.requires.1 a.raw.now c.requires.2 c.typed-body.result.len c.typed-body.ensures.0 (c.in-Some.ensures.0 refl))
+    ∙ ap (λ (b : List ℕ). here (compose unicode16 (take a.n a.points.now ++ (a.self.key ∷ [])) b c.typed-body.result.tone No))
+    (body_same a.points.now a.n a.self.key c.requires.1 a.raw.now c.requires.2 c.typed-body.result.len c.typed-body.ensures.0 (c.in-Some.ensures.0 refl))
     ∙ ap here
-    (step_text a.points.now a.n a.key c.requires.1 a.k a.tone _ _ _ c.grown_len.ensures.0 c.grown_len.ensures.1 c.typed-body.ensures.0 c.typed-body.ensures.1)
+    (step_text a.points.now a.n a.self.key c.requires.1 a.self.keys a.self.tone _ _ _ c.grown_len.ensures.0 c.grown_len.ensures.1 c.typed-body.ensures.0 c.typed-body.ensures.1)
 
 pub compose_points-requires : goal.compose_points-requires
 compose_points-requires c =
-    let s = size c.args.points.now c.args.n c.args.key c.requires.1 in
-    (omega (arith, s, c.typed-body.ensures.0, c.requires.0), omega (arith, s, c.typed-body.ensures.0, c.requires.1, length-set c.args.points.now c.args.n c.args.key))
+    let s = size c.args.points.now c.args.n c.args.self.key c.requires.1 in
+    (omega (arith, s, c.typed-body.ensures.0, c.requires.0), omega (arith, s, c.typed-body.ensures.0, c.requires.1, length-set c.args.points.now c.args.n c.args.self.key))
 
 pub returns : goal.returns
 returns c =
     let a = c.args in
-    let text = compose unicode16 (take a.n a.points.now ++ (a.key ∷ [])) (take c.typed-body.result.len (stored a.points.now a.n a.key c.requires.1)) c.typed-body.result.tone No in
+    let text = compose unicode16 (take a.n a.points.now ++ (a.self.key ∷ [])) (take c.typed-body.result.len (stored a.points.now a.n a.self.key c.requires.1)) c.typed-body.result.tone No in
     c.compose_points.ensures _ c.requires.2
     ∙ ap (placed 0 (encode text)) (c.in_default.ensures.1 _ c.requires.2)
     ∙ ap (λ (l : List ℕ). placed 0 (encode l) a.out.now)
-    (step_text a.points.now a.n a.key c.requires.1 a.k a.tone _ _ _ c.grown_len.ensures.0 c.grown_len.ensures.1 c.typed-body.ensures.0 c.typed-body.ensures.1)
+    (step_text a.points.now a.n a.self.key c.requires.1 a.self.keys a.self.tone _ _ _ c.grown_len.ensures.0 c.grown_len.ensures.1 c.typed-body.ensures.0 c.typed-body.ensures.1)

@@ -15,8 +15,8 @@ use Rattle.khiin.specs.Telex.{edited}
 use Rattle.khiin.specs.declared.converter.Edit.{Edit}
 use Rattle.khiin.proofs.converter.Laws.{but_two, key_behind, cut_bytes}
 use native.Mathlib.Omega.{arith}
-use Rattle.khiin.proofs.converter.finish.Goals as goal
-use Rattle.khiin.proofs.converter.finish.Goals.{After-e_like}
+use Rattle.khiin.proofs.converter.Step.finish.Goals as goal
+use Rattle.khiin.proofs.converter.Step.finish.Goals.{After-e_like}
 
 e_small : (key : ℕ) → e_like key ≤ 0x7F
 e_small key = by_case (eqb (lower key) key)
@@ -51,7 +51,7 @@ pub without_last-at-requires-in-LastTwo : goal.without_last-at-requires-in-LastT
 without_last-at-requires-in-LastTwo c = omega (arith, c.without_last.ensures.1, c.requires.1)
 
 pub overflow_cast-bytes : goal.overflow_cast-bytes
-overflow_cast-bytes c = omega (arith, c.e_like.ensures, e_small c.args.key)
+overflow_cast-bytes c = omega (arith, c.e_like.ensures, e_small c.args.self.key)
 
 pub bounds-bytes-at : goal.bounds-bytes-at
 bounds-bytes-at c = omega (arith, c.without_last-at-in-LastTwo.ensures.1, c.without_last.ensures.1, c.requires.1)
@@ -71,27 +71,27 @@ pub returns-in-Behind : goal.returns-in-Behind
 returns-in-Behind c =
     λ h.
     c.place_key.ensures
-    ∙ ap (λ (l : List ℕ). placed 0 l c.args.out.now) (ap (λ (l : List ℕ). l ++ (c.args.key ∷ [])) h.written ∙ key_behind h.rest c.args.key c.requires.0)
-    ∙ ap (λ (e : Edit). placed 0 (encode (edited unicode16 c.args.k e c.args.key c.args.tone h.rest)) c.args.out.now) (sym c.in-Behind.is)
+    ∙ ap (λ (l : List ℕ). placed 0 l c.args.out.now) (ap (λ (l : List ℕ). l ++ (c.args.self.key ∷ [])) h.written ∙ key_behind h.rest c.args.self.key c.requires.0)
+    ∙ ap (λ (e : Edit). placed 0 (encode (edited unicode16 c.args.self.keys e c.args.self.key c.args.self.tone h.rest)) c.args.out.now) (sym c.in-Behind.is)
 
 pub returns-in-Last : goal.returns-in-Last
 returns-in-Last c =
     λ h.
     c.place_key-in-Last.ensures
     ∙ ap (λ (l : List ℕ). placed 0 l c.args.out.now)
-    (ap (λ (l : List ℕ). l ++ (c.args.key ∷ [])) (cut_bytes c.args.bytes.now h.rest c.args.n _ h.written c.without_last-at.ensures.0 c.without_last-at.ensures.1) ∙ key_behind (but_last 1 h.rest) c.args.key c.requires.0)
-    ∙ ap (λ (e : Edit). placed 0 (encode (edited unicode16 c.args.k e c.args.key c.args.tone h.rest)) c.args.out.now) (sym c.in-Last.is)
+    (ap (λ (l : List ℕ). l ++ (c.args.self.key ∷ [])) (cut_bytes c.args.bytes.now h.rest c.args.n _ h.written c.without_last-at.ensures.0 c.without_last-at.ensures.1) ∙ key_behind (but_last 1 h.rest) c.args.self.key c.requires.0)
+    ∙ ap (λ (e : Edit). placed 0 (encode (edited unicode16 c.args.self.keys e c.args.self.key c.args.self.tone h.rest)) c.args.out.now) (sym c.in-Last.is)
 
 pub returns-in-LastTwo : goal.returns-in-LastTwo
 returns-in-LastTwo c =
     λ h.
     c.place_key-in-LastTwo.ensures
     ∙ ap (λ (l : List ℕ). placed 0 l c.args.out.now)
-    (two_for c.args.bytes.now h.rest c.args.n c.without_last.result c.without_last-at-in-LastTwo.result c.args.key c.e_like.result h.written c.without_last.ensures.0 c.without_last.ensures.1 c.without_last-at-in-LastTwo.ensures.0 c.without_last-at-in-LastTwo.ensures.1 (omega (arith, c.without_last-at-in-LastTwo.ensures.1, c.without_last.ensures.1, c.requires.1)) c.requires.0 c.e_like.ensures)
-    ∙ ap (λ (x : Edit). placed 0 (encode (edited unicode16 c.args.k x c.args.key c.args.tone h.rest)) c.args.out.now) (sym c.in-LastTwo.is)
+    (two_for c.args.bytes.now h.rest c.args.n c.without_last.result c.without_last-at-in-LastTwo.result c.args.self.key c.e_like.result h.written c.without_last.ensures.0 c.without_last.ensures.1 c.without_last-at-in-LastTwo.ensures.0 c.without_last-at-in-LastTwo.ensures.1 (omega (arith, c.without_last-at-in-LastTwo.ensures.1, c.without_last.ensures.1, c.requires.1)) c.requires.0 c.e_like.ensures)
+    ∙ ap (λ (x : Edit). placed 0 (encode (edited unicode16 c.args.self.keys x c.args.self.key c.args.self.tone h.rest)) c.args.out.now) (sym c.in-LastTwo.is)
 
 pub returns-in-Compose : goal.returns-in-Compose
 returns-in-Compose c =
     λ h.
     c.compose_in.ensures h
-    ∙ ap (λ (e : Edit). placed 0 (encode (edited unicode16 c.args.k e c.args.key c.args.tone h.rest)) c.args.out.now) (sym c.in-Compose.is)
+    ∙ ap (λ (e : Edit). placed 0 (encode (edited unicode16 c.args.self.keys e c.args.self.key c.args.self.tone h.rest)) c.args.out.now) (sym c.in-Compose.is)

@@ -4,7 +4,7 @@ use borrow.Author.Tests.{eq-eqb, ne_eqb}
 use lib.Dec.{eqb}
 use Rattle.ji.proofs.Bools.{and_yes, and_no}
 use Rattle.khiin.specs.Converter.{repeats_tone}
-use Rattle.khiin.proofs.converter.repeats_tone.Goals as goal
+use Rattle.khiin.proofs.converter.Step.repeats_tone.Goals as goal
 
 pub returns-then-before-ne-SPACE : goal.returns-then-before-ne-SPACE
 unfolding repeats_tone
