@@ -9,7 +9,7 @@ ghost use Rattle.khiin.specs.Syllable.{compose};
 ghost use Rattle.khiin.specs.Converter.{keys_in, key_to_tone, tone_to_key, is_setting, settings_fit, shared_or, ends_in_stop, repeats_tone, e_like, grown, is_first, telex_call};
 ghost use Rattle.khiin.specs.Telex.{edit_by, edit_at, edit_of, composed_of, edited, step_of, RestIn};
 
-use crate::syllable::compose::compose_points;
+use crate::syllable::compose::Composer;
 use crate::syllable::plain::compose_plain;
 use ji::lomaji::khin::Khin;
 use ji::lomaji::strip;
@@ -358,7 +358,12 @@ impl Step {
         if let Some(answer) = compose_plain(raw, &raw[..body.len], body.tone, Khin::No, out) {
             return answer;
         }
-        compose_points(raw, points, body.len, body.tone, Khin::No, out)
+        let composer = Composer {
+            raw,
+            tone: body.tone,
+            khin: Khin::No,
+        };
+        composer.compose_points(points, body.len, out)
     }
 
     // Reads the stripped text, the first `n` of `bytes`, into `points`, and composes it anew.

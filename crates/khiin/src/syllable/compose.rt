@@ -237,7 +237,8 @@ fn move_sign(s: &mut [u16], sign: u16) -> usize
     n
 }
 
-// A text at the front of a buffer: how many code points it has, and whether none before its end is a sign.
+// A text at the front of a buffer: how many code points it has, and whether none before its end is a sign. The buffer is no field, since a struct
+// with it would be taken apart in each function: one needs the text alone, the next the room behind it too.
 #[derive(Clone, Copy)]
 struct Settled {
     len: usize,
@@ -353,110 +354,96 @@ fn write_whole(khin: Khin, s: &[u16], out: &mut [u16]) -> usize
     from + write_dotted(s, &mut out[from..])
 }
 
-// Writes the text of a body that is spelled but for the O rules, from a buffer with room for these and for khin.
-fn place_dotted(
-    raw: &[u8],
-    s: &[u16],
-    tone: Tone,
-    khin: Khin,
-    out: &mut [u8],
-) -> Result<ByteLen, Refusal>
-    requires { length s.now ≤ 400 }
-    ensures { (raw_input body : List ℕ) → raw.now ≡ encode raw_input → settled_body body ≡ s.now → text_reply result out.new ≡ placed 0 (encode (compose unicode16 raw_input body tone khin)) out.old }
-{
-    let mut b = [0u16; 803];
-    let n = write_whole(khin, s, &mut b);
-    place_spelled(raw, &mut b, n, tone, out)
+// What a body is composed with: the raw input, which is the answer where there is no letter for the tone mark, the tone, and khin.
+#[derive(Clone, Copy)]
+pub(crate) struct Composer<'a> {
+    pub(crate) raw: &'a [u8],
+    pub(crate) tone: Tone,
+    pub(crate) khin: Khin,
 }
 
-// The same in the buffer `s`, of which the text takes the first `n` places, where it has no khin and no sign before its end.
-fn place_settled(
-    raw: &[u8],
-    s: &mut [u16],
-    settled: Settled,
-    tone: Tone,
-    khin: Khin,
-    out: &mut [u8],
-) -> Result<ByteLen, Refusal>
-    requires { (settled.len ≤ 400) × (settled.len + 1 < length s.old) × (settled.lone ≡ true → NoSignBefore (take settled.len s.old)) }
-    ensures { (raw_input body : List ℕ) → raw.now ≡ encode raw_input → settled_body body ≡ take settled.len s.old → text_reply result out.new ≡ placed 0 (encode (compose unicode16 raw_input body tone khin)) out.old }
-{
-    let n = settled.len;
-    match khin {
-        Khin::No if settled.lone => {
-            let m = put_dot(s, n);
-            place_spelled(raw, s, m, tone, out)
+impl Composer<'_> {
+    // Writes the text of a body that is spelled but for the O rules, from a buffer with room for these and for khin.
+    fn place_dotted(self, s: &[u16], out: &mut [u8]) -> Result<ByteLen, Refusal>
+        requires { length s.now ≤ 400 }
+        ensures { (raw_input body : List ℕ) → self.entry.raw.now ≡ encode raw_input → settled_body body ≡ s.now → text_reply result out.new ≡ placed 0 (encode (compose unicode16 raw_input body self.entry.tone self.entry.khin)) out.old }
+    {
+        let mut b = [0u16; 803];
+        let n = write_whole(self.khin, s, &mut b);
+        place_spelled(self.raw, &mut b, n, self.tone, out)
+    }
+
+    // The same in the buffer `s`, of which the text takes the first `n` places, where it has no khin and no sign before its end.
+    fn place_settled(
+        self,
+        s: &mut [u16],
+        settled: Settled,
+        out: &mut [u8],
+    ) -> Result<ByteLen, Refusal>
+        requires { (settled.len ≤ 400) × (settled.len + 1 < length s.old) × (settled.lone ≡ true → NoSignBefore (take settled.len s.old)) }
+        ensures { (raw_input body : List ℕ) → self.entry.raw.now ≡ encode raw_input → settled_body body ≡ take settled.len s.old → text_reply result out.new ≡ placed 0 (encode (compose unicode16 raw_input body self.entry.tone self.entry.khin)) out.old }
+    {
+        let n = settled.len;
+        match self.khin {
+            Khin::No if settled.lone => {
+                let m = put_dot(s, n);
+                place_spelled(self.raw, s, m, self.tone, out)
+            }
+            _ => self.place_dotted(&s[..n], out),
         }
-        _ => place_dotted(raw, &s[..n], tone, khin, out),
     }
-}
 
-// Composes the body that stands in the first `n` places of `s`, which is used up.
-pub(crate) fn compose_points(
-    raw: &[u8],
-    s: &mut [u16],
-    n: usize,
-    tone: Tone,
-    khin: Khin,
-    out: &mut [u8],
-) -> Result<ByteLen, Refusal>
-    requires { (n ≤ 400) × (n + 1 < length s.old) }
-    ensures { (raw_input : List ℕ) → raw.now ≡ encode raw_input → text_reply result out.new ≡ placed 0 (encode (compose unicode16 raw_input (take n s.old) tone khin)) out.old }
-{
-    let settled = settle(&mut s[..n]);
-    place_settled(raw, s, settled, tone, khin, out)
-}
-
-// Reads the body and composes it.
-#[inline(always)]
-fn compose_body(
-    raw: &[u8],
-    body: &[u8],
-    tone: Tone,
-    khin: Khin,
-    points: &mut [u16],
-    out: &mut [u8],
-) -> Result<ByteLen, Refusal>
-    requires { (length body.now ≤ 256) × (length body.now ≤ length points.old) × (length body.now + 1 < length points.old) }
-    ensures { (raw_input : List ℕ) → raw.now ≡ encode raw_input → text_reply result out.new ≡ compose_of unicode16 tone khin (good raw_input) (check_text unicode16 body.now) out.old }
-{
-    let len = unicode::code_points(body, points)?;
-    compose_points(raw, points, len.0, tone, khin, out)
-}
-
-// The same in a buffer of `N` places: clearing a small one is quicker.
-fn compose_in<const N: usize>(
-    raw: &[u8],
-    body: &[u8],
-    tone: Tone,
-    khin: Khin,
-    out: &mut [u8],
-) -> Result<ByteLen, Refusal>
-    requires { (length body.now ≤ 256) × (length body.now + 1 < N) × (N ≤ 65536) }
-    ensures { (raw_input : List ℕ) → raw.now ≡ encode raw_input → text_reply result out.new ≡ compose_of unicode16 tone khin (good raw_input) (check_text unicode16 body.now) out.old }
-{
-    let mut points = [0u16; N];
-    compose_body(raw, body, tone, khin, &mut points, out)
-}
-
-// A body of any length that is allowed.
-fn compose_any(
-    raw: &[u8],
-    body: &[u8],
-    tone: Tone,
-    khin: Khin,
-    out: &mut [u8],
-) -> Result<ByteLen, Refusal>
-    requires { length body.now ≤ 256 }
-    ensures { (raw_input : List ℕ) → raw.now ≡ encode raw_input → text_reply result out.new ≡ compose_of unicode16 tone khin (good raw_input) (check_text unicode16 body.now) out.old }
-{
-    if let Some(answer) = compose_plain(raw, body, tone, khin, out) {
-        return answer;
+    // Composes the body that stands in the first `n` places of `s`, which is used up.
+    pub(crate) fn compose_points(
+        self,
+        s: &mut [u16],
+        n: usize,
+        out: &mut [u8],
+    ) -> Result<ByteLen, Refusal>
+        requires { (n ≤ 400) × (n + 1 < length s.old) }
+        ensures { (raw_input : List ℕ) → self.entry.raw.now ≡ encode raw_input → text_reply result out.new ≡ placed 0 (encode (compose unicode16 raw_input (take n s.old) self.entry.tone self.entry.khin)) out.old }
+    {
+        let settled = settle(&mut s[..n]);
+        self.place_settled(s, settled, out)
     }
-    if body.len() <= 16 {
-        return compose_in::<18>(raw, body, tone, khin, out);
+
+    // Reads the body and composes it.
+    #[inline(always)]
+    fn compose_body(
+        self,
+        body: &[u8],
+        points: &mut [u16],
+        out: &mut [u8],
+    ) -> Result<ByteLen, Refusal>
+        requires { (length body.now ≤ 256) × (length body.now ≤ length points.old) × (length body.now + 1 < length points.old) }
+        ensures { (raw_input : List ℕ) → self.entry.raw.now ≡ encode raw_input → text_reply result out.new ≡ compose_of unicode16 self.entry.tone self.entry.khin (good raw_input) (check_text unicode16 body.now) out.old }
+    {
+        let len = unicode::code_points(body, points)?;
+        self.compose_points(points, len.0, out)
     }
-    compose_in::<258>(raw, body, tone, khin, out)
+
+    // The same in a buffer of `N` places: clearing a small one is quicker.
+    fn compose_in<const N: usize>(self, body: &[u8], out: &mut [u8]) -> Result<ByteLen, Refusal>
+        requires { (length body.now ≤ 256) × (length body.now + 1 < N) × (N ≤ 65536) }
+        ensures { (raw_input : List ℕ) → self.entry.raw.now ≡ encode raw_input → text_reply result out.new ≡ compose_of unicode16 self.entry.tone self.entry.khin (good raw_input) (check_text unicode16 body.now) out.old }
+    {
+        let mut points = [0u16; N];
+        self.compose_body(body, &mut points, out)
+    }
+
+    // A body of any length that is allowed.
+    fn compose_any(self, body: &[u8], out: &mut [u8]) -> Result<ByteLen, Refusal>
+        requires { length body.now ≤ 256 }
+        ensures { (raw_input : List ℕ) → self.entry.raw.now ≡ encode raw_input → text_reply result out.new ≡ compose_of unicode16 self.entry.tone self.entry.khin (good raw_input) (check_text unicode16 body.now) out.old }
+    {
+        if let Some(answer) = compose_plain(self.raw, body, self.tone, self.khin, out) {
+            return answer;
+        }
+        if body.len() <= 16 {
+            return self.compose_in::<18>(body, out);
+        }
+        self.compose_in::<258>(body, out)
+    }
 }
 
 // `compose`: the text of the syllable with this raw input, body, tone and khin, in `out`.
@@ -473,5 +460,5 @@ pub fn compose(
     if 256 < body.len() {
         return Err(Refusal::TooLong);
     }
-    compose_any(raw, body, tone, khin, out)
+    Composer { raw, tone, khin }.compose_any(body, out)
 }

@@ -7,7 +7,7 @@ use Rattle.ji.specs.Reply.{placed}
 use Rattle.khiin.specs.Syllable.{mark_of, composed_with}
 use Rattle.khiin.proofs.syllable.compose.Laws.{composed_is}
 use native.Mathlib.Omega.{arith}
-use Rattle.khiin.proofs.syllable.compose.place_dotted.Goals as goal
+use Rattle.khiin.proofs.syllable.compose.Composer.place_dotted.Goals as goal
 
 pub place_spelled-requires : goal.place_spelled-requires
 place_spelled-requires c =
@@ -18,5 +18,5 @@ returns c =
     λ raw_input body e f.
     c.place_spelled.ensures raw_input e
     ∙ ap (λ (u : List ℕ). placed 0 (encode u) c.args.out.now)
-    (ap (λ (u : List ℕ). composed_with unicode16 raw_input u (mark_of c.args.tone)) c.write_whole-n.ensures.0.is
-    ∙ composed_is raw_input body c.args.s.now c.args.tone c.args.khin f)
+    (ap (λ (u : List ℕ). composed_with unicode16 raw_input u (mark_of c.args.self.tone)) c.write_whole-n.ensures.0.is
+    ∙ composed_is raw_input body c.args.s.now c.args.self.tone c.args.self.khin f)

@@ -7,7 +7,7 @@ use Rattle.khiin.specs.Compose.{NoSignBefore, SettledAs, settled_body}
 use Rattle.khiin.specs.declared.syllable.compose.Settled.{Settled}
 use Rattle.khiin.proofs.syllable.compose.Laws.{front_fits, front_longer}
 use native.Mathlib.Omega.{arith}
-use Rattle.khiin.proofs.syllable.compose.compose_points.Goals as goal
+use Rattle.khiin.proofs.syllable.compose.Composer.compose_points.Goals as goal
 
 -- the settled text at the front of the whole buffer
 whole : (s : List ℕ) (n : ℕ) {part : List ℕ} {r : Settled} → SettledAs part (settled_body (take n s)) r → (rest : List ℕ) → SettledAs (part ++ rest) (settled_body (take n s)) r

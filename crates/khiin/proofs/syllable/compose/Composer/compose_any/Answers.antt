@@ -4,23 +4,23 @@ use Rattle.ji.specs.Reply.{Checked, good, check_text}
 use Rattle.ji.proofs.Replies.{check_within_law}
 use Rattle.ji.proofs.unicode.Ascii.{ascii_good}
 use Rattle.khiin.specs.Syllable.{compose_of}
-use Rattle.khiin.proofs.syllable.compose.compose_any.Goals as goal
+use Rattle.khiin.proofs.syllable.compose.Composer.compose_any.Goals as goal
 
 pub returns-in-Some : goal.returns-in-Some
 returns-in-Some c =
     λ raw_input e.
     let body = c.args.body.now in
     c.in-Some.ensures.1 raw_input e
-    ∙ ap (λ (k : Checked). compose_of unicode16 c.args.tone c.args.khin (good raw_input) k c.args.out.now) (sym (check_within_law unicode16 body c.requires ∙ ascii_good body (c.in-Some.ensures.0 refl)))
+    ∙ ap (λ (k : Checked). compose_of unicode16 c.args.self.tone c.args.self.khin (good raw_input) k c.args.out.now) (sym (check_within_law unicode16 body c.requires ∙ ascii_good body (c.in-Some.ensures.0 refl)))
 
 pub returns-then-body-le16 : goal.returns-then-body-le16
 returns-then-body-le16 c =
     λ raw_input e.
     c.compose_in.ensures raw_input e
-    ∙ ap (compose_of unicode16 c.args.tone c.args.khin (good raw_input) (check_text unicode16 c.args.body.now)) (c.in_default.ensures.1 raw_input e)
+    ∙ ap (compose_of unicode16 c.args.self.tone c.args.self.khin (good raw_input) (check_text unicode16 c.args.body.now)) (c.in_default.ensures.1 raw_input e)
 
 pub returns : goal.returns
 returns c =
     λ raw_input e.
     c.compose_in-2.ensures raw_input e
-    ∙ ap (compose_of unicode16 c.args.tone c.args.khin (good raw_input) (check_text unicode16 c.args.body.now)) (c.in_default.ensures.1 raw_input e)
+    ∙ ap (compose_of unicode16 c.args.self.tone c.args.self.khin (good raw_input) (check_text unicode16 c.args.body.now)) (c.in_default.ensures.1 raw_input e)
