@@ -22,11 +22,11 @@ returns-then-tone-gt9 c =
     let a = c.args in
     c.refuse.ensures a.out.now
     ∙ by_test a.raw.now a.body.now a.tone a.khin a.out.now false (
-        elim c.then-tone-gt9.branch [
-          | then-tone-gt9-via-then-tone-gt9 w ↦ and_no _ _ (lt-leb _ _ w.if-tone-gt9.true)
-          | then-tone-gt9-via-else-tone-gt9+then-khin-gt1 w ↦ and_yes _ _ (le-leb _ _ w.if-tone-gt9.false) ∙ lt-leb _ _ w.if-khin-gt1.true
-        ]
-      )
+    elim c.then-tone-gt9.branch [
+      | then-tone-gt9-via-then-tone-gt9 w ↦ and_no _ _ (lt-leb _ _ w.if-tone-gt9.true)
+      | then-tone-gt9-via-else-tone-gt9+then-khin-gt1 w ↦ and_yes _ _ (le-leb _ _ w.if-tone-gt9.false) ∙ lt-leb _ _ w.if-khin-gt1.true
+    ]
+    )
 
 pub returns : goal.returns
 returns c =

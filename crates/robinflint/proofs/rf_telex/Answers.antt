@@ -32,9 +32,9 @@ returns-then-mode-gt1 c =
     let a = c.args in
     c.refuse.ensures a.out.now
     ∙ elim c.then-mode-gt1.branch [
-        | then-mode-gt1-via-then-mode-gt1 w ↦ by_test a.text.now a.key a.mode a.keys.now a.out.now false (lt-leb _ _ w.if-mode-gt1.true)
-        | then-mode-gt1-via-else-mode-gt1+then-key-gt126 w ↦ high_key a.text.now a.key a.mode a.keys.now a.out.now w.if-key-gt126.true
-      ]
+      | then-mode-gt1-via-then-mode-gt1 w ↦ by_test a.text.now a.key a.mode a.keys.now a.out.now false (lt-leb _ _ w.if-mode-gt1.true)
+      | then-mode-gt1-via-else-mode-gt1+then-key-gt126 w ↦ high_key a.text.now a.key a.mode a.keys.now a.out.now w.if-key-gt126.true
+    ]
 
 pub returns : goal.returns
 returns c =

@@ -11,10 +11,10 @@ pub returns-then-b-lt768 : goal.returns-then-b-lt768
 returns-then-b-lt768 c =
     no_composite c.args.a c.args.b
     (λ marks.
-      elim c.then-b-lt768.branch [
-        | then-b-lt768-via-then-b-lt768 w ↦ omega arith
-        | then-b-lt768-via-else-b-lt768+then-b-gt824 w ↦ omega arith
-      ])
+    elim c.then-b-lt768.branch [
+      | then-b-lt768-via-then-b-lt768 w ↦ omega arith
+      | then-b-lt768-via-else-b-lt768+then-b-gt824 w ↦ omega arith
+    ])
 
 pub returns-then-eq : goal.returns-then-eq
 returns-then-eq c = made c.args.a c.args.b c.candidate-p.result c.decomposition.result c.decomposition.ensures.text c.candidate-p.ensures (search rules)
