@@ -6,5 +6,4 @@ pub mod Candidate
 pub mod RowLaw
 pub mod RowData
 pub mod Rows
-pub mod Ranges
 pub mod Answer

@@ -9,37 +9,23 @@ ghost use Rattle.ucd.specs.Answer.{text_of, said, point_of};
 mod table;
 
 // c is a code point of the table.
+#[tactic(auto, using(std::proofs::lemmas::Bool::Decides::nat_tests), unfolding(crate::specs::Table::member, crate::specs::Table::in_ranges, crate::specs::Unicode16::unicode16, crate::specs::Unicode16::ranges16))]
 pub fn is_member(c: u32) -> bool
     ensures { result ≡ member unicode16 c }
 {
-    if c <= 0x007F {
-        return true;
-    }
-    if c < 0x00C0 {
-        return c == 0x00B7;
-    }
-    if c <= 0x024F {
-        return true;
-    }
-    if c < 0x0300 {
-        return c == 0x0292;
-    }
-    if c <= 0x036F {
-        return true;
-    }
-    if c < 0x1E00 {
-        return c == 0x1D3A;
-    }
-    if c <= 0x1EFF {
-        return true;
-    }
-    if c < 0x2260 {
-        return c == 0x207F;
-    }
-    if c < 0x226E {
-        return c == 0x2260;
-    }
-    c <= 0x226F
+    matches!(
+        c,
+        0x0000..=0x007F
+            | 0x00B7
+            | 0x00C0..=0x024F
+            | 0x0292
+            | 0x0300..=0x036F
+            | 0x1D3A
+            | 0x1E00..=0x1EFF
+            | 0x207F
+            | 0x2260
+            | 0x226E..=0x226F
+    )
 }
 
 // What a code point decomposes to: itself, where it has no mapping.
