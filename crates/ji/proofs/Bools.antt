@@ -20,6 +20,10 @@ and_no a b e = ap (λ (x : Bool). x && b) e
 pub and_yes : (a b : Bool) → a ≡ true → (a && b) ≡ b
 and_yes a b e = ap (λ (x : Bool). x && b) e
 
+pub and_group : (a b c : Bool) → ((a && b) && c) ≡ (a && (b && c))
+and_group true b c = refl
+and_group false b c = refl
+
 pub and_false : (a : Bool) → (a && false) ≡ false
 and_false true = refl
 and_false false = refl

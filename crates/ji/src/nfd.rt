@@ -11,17 +11,18 @@ use crate::reply::Refusal;
 use crate::unicode::{ByteLen, CharLen};
 use crate::{reply, unicode};
 
-// The combining class of c. What stands below U+0300 is a starter, and most texts hold little else: it needs no lookup.
+// The combining class of c. `ucd` tests for U+0300 too, but in a call: most texts hold little that is not below it, and need no call.
 pub(crate) fn class_of(c: u16) -> u8
     ensures { result ≡ combining_class unicode16 c }
 {
     if c < 0x0300 {
-        return 0;
+        0
+    } else {
+        ucd::combining_class(c)
     }
-    ucd::combining_class(c)
 }
 
-// No pair of s is reorderable.
+// No pair of s is reorderable. The class before is kept: pairs of `windows(2)` would have each class looked up twice.
 fn is_ordered(s: &[u16]) -> bool
     ensures { (result ≡ true → Ordered unicode16 s.now) × (result ≡ false → Ordered unicode16 s.now → ⊥) }
 {
@@ -57,7 +58,7 @@ fn insert(s: &mut [u16], i: usize)
     s[i..end].rotate_left(1);
 }
 
-// The insertions, from the last code point to the first.
+// The insertions, from the last code point to the first. The library's stable sort asks for memory of its own, and there is none.
 fn sort(s: &mut [u16])
     ensures { s.new ≡ order unicode16 s.old }
 {

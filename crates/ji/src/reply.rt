@@ -102,10 +102,9 @@ pub fn place_between(
     ensures { text_reply result out.new ≡ placed 0 (before.now ++ (bytes_of x ++ after.now)) out.old }
 {
     let size = utf8::byte_count(x);
-    if out.len() < before.len() {
+    let Some(left) = out.len().checked_sub(before.len()) else {
         return Err(Refusal::NoRoom);
-    }
-    let left = out.len() - before.len();
+    };
     if left < size || left - size < after.len() {
         return Err(Refusal::NoRoom);
     }

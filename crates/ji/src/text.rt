@@ -17,7 +17,7 @@ pub fn lower(x: u16) -> u16
     }
 }
 
-// The same of a byte.
+// The same of a byte: the library's method, under the name and the definition that callers know.
 pub fn lower_byte(x: u8) -> u8
     ensures { result ≡ lower_of x }
 {
@@ -85,10 +85,10 @@ fn fits(s: &[u16], pattern: &[u16], by: &[u16], room: usize) -> bool
         } else {
             (1, 1)
         };
-        if left < size {
+        let Some(rest) = left.checked_sub(size) else {
             return false;
-        }
-        left -= size;
+        };
+        left = rest;
         i += width;
     }
     true

@@ -43,7 +43,7 @@ fn spread_pair(a: u16, b: u16) -> Spread
     }
 }
 
-// What c becomes. What stands below U+00C0 does not decompose, and most texts hold little else: it needs no lookup.
+// What c becomes. `ucd` tests for U+00C0 too, but in a call: most texts hold little that is not below it, and need no call.
 fn spread_point(c: u16, decomposed: bool) -> Spread
     ensures { spread_text result ≡ spread unicode16 decomposed (c ∷ []) }
 {
@@ -120,7 +120,7 @@ pub(crate) fn decode(s: &[u8], decomposed: bool, out: &mut [u16]) -> Result<Char
     Ok(CharLen(n))
 }
 
-// Whether all bytes of `s` are ASCII. What is made of such a text needs no table.
+// Whether all bytes of `s` are ASCII, after which nothing needs the table: the library's method, with our definition as its clause.
 pub fn is_ascii(s: &[u8]) -> bool
     ensures { result ≡ all_ascii s.now }
 {
@@ -145,9 +145,10 @@ pub(crate) fn read_points(text: &[u8], out: &mut [u16]) -> Result<CharLen, Refus
     ensures { Reading unicode16 false text.now out.old out.new result }
 {
     if is_ascii(text) {
-        return Ok(CharLen(widen(text, out)));
+        Ok(CharLen(widen(text, out)))
+    } else {
+        decode(text, false, out)
     }
-    decode(text, false, out)
 }
 
 // The code points of `text`, as they are, at the front of `out`, which has to have three places for every two bytes. A text that is refused leaves its
@@ -228,9 +229,10 @@ pub fn code_points(text: &[u8], out: &mut [u16]) -> Result<CharLen, Refusal>
         return Ok(CharLen(widen(text, out)));
     }
     if text.len() <= 16 {
-        return short_points(text, out);
+        short_points(text, out)
+    } else {
+        long_points(text, out)
     }
-    long_points(text, out)
 }
 
 // Whether the bytes `s` are a text of the table, or which of the two refusals they get.
@@ -249,9 +251,10 @@ pub fn check(text: &[u8], limit: usize) -> Result<(), Refusal>
         return Err(Refusal::TooLong);
     }
     if is_ascii(text) {
-        return Ok(());
+        Ok(())
+    } else {
+        check_points(text)
     }
-    check_points(text)
 }
 
 // Where the last sequence of `text` begins, in bytes.
@@ -261,7 +264,8 @@ pub fn last_start(text: &[u8]) -> ByteLen
     ByteLen(utf8::last_start(text))
 }
 
-// The code point of the last sequence of `text`, and 0 where there is none, or one of more than sixteen bits, which the table has not.
+// The code point of the last sequence of `text`, and 0 where there is none, or one of more than sixteen bits, which the table has not: 0 is
+// what the definition gives there, and callers ask for no more.
 pub fn last_point(text: &[u8]) -> u16
     ensures { result ≡ last_point text.now }
 {

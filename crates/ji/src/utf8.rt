@@ -14,11 +14,11 @@ pub(crate) struct Sequence {
     pub point: u32,
 }
 
-// The byte at `i`, and 0 past the end, which is no later byte of a sequence.
+// The byte at `i`, and 0 past the end, which is what the definitions read there: 0 is no later byte of a sequence.
 fn byte_at(s: &[u8], i: usize) -> u32
     ensures { (result ≡ get_or s.now i 0) × (result ≤ 255) }
 {
-    s.get(i).copied().unwrap_or(0) as u32
+    u32::from(s.get(i).copied().unwrap_or(0))
 }
 
 // Whether `b` may be a later byte of a sequence, where its first byte asks for no more.
@@ -47,13 +47,10 @@ fn read_two(s: &[u8], at: usize) -> Option<Sequence>
 {
     let a = byte_at(s, at);
     let b = byte_at(s, at + 1);
-    if is_later(b) {
-        return Some(Sequence {
-            width: 2,
-            point: a % 32 * 64 + b % 64,
-        });
-    }
-    None
+    is_later(b).then_some(Sequence {
+        width: 2,
+        point: a % 32 * 64 + b % 64,
+    })
 }
 
 fn read_three(s: &[u8], at: usize) -> Option<Sequence>
@@ -63,13 +60,10 @@ fn read_three(s: &[u8], at: usize) -> Option<Sequence>
     let a = byte_at(s, at);
     let b = byte_at(s, at + 1);
     let c = byte_at(s, at + 2);
-    if is_second(a, b) && is_later(c) {
-        return Some(Sequence {
-            width: 3,
-            point: a % 16 * 4096 + b % 64 * 64 + c % 64,
-        });
-    }
-    None
+    (is_second(a, b) && is_later(c)).then_some(Sequence {
+        width: 3,
+        point: a % 16 * 4096 + b % 64 * 64 + c % 64,
+    })
 }
 
 fn read_four(s: &[u8], at: usize) -> Option<Sequence>
@@ -80,13 +74,10 @@ fn read_four(s: &[u8], at: usize) -> Option<Sequence>
     let b = byte_at(s, at + 1);
     let c = byte_at(s, at + 2);
     let d = byte_at(s, at + 3);
-    if is_second(a, b) && is_later(c) && is_later(d) {
-        return Some(Sequence {
-            width: 4,
-            point: a % 8 * 262144 + b % 64 * 4096 + c % 64 * 64 + d % 64,
-        });
-    }
-    None
+    (is_second(a, b) && is_later(c) && is_later(d)).then_some(Sequence {
+        width: 4,
+        point: a % 8 * 262144 + b % 64 * 4096 + c % 64 * 64 + d % 64,
+    })
 }
 
 // The sequence that begins at `at`, or `None` where the bytes there fit no row of Table 3-7.
@@ -104,7 +95,8 @@ pub(crate) fn read_at(s: &[u8], at: usize) -> Option<Sequence>
     }
 }
 
-// The same, small enough to be compiled into a caller's loop: a sequence of one byte or two is read in place.
+// The same, small enough to be compiled into a caller's loop: a sequence of one byte or two is read in place, which a
+// call of `read_at` alone is too slow for.
 pub(crate) fn read(s: &[u8], at: usize) -> Option<Sequence>
     requires { at < length s.now }
     ensures { ReadOf (drop at s.now) result }
@@ -139,17 +131,17 @@ pub(crate) fn put_point(x: u32, out: &mut [u8], at: usize) -> usize
 {
     if x <= 0x7F {
         out[at] = x as u8;
-        return at + 1;
-    }
-    if x <= 0x7FF {
+        at + 1
+    } else if x <= 0x7FF {
         out[at] = (0xC0 + x / 64) as u8;
         out[at + 1] = (0x80 + x % 64) as u8;
-        return at + 2;
+        at + 2
+    } else {
+        out[at] = (0xE0 + x / 4096) as u8;
+        out[at + 1] = (0x80 + x / 64 % 64) as u8;
+        out[at + 2] = (0x80 + x % 64) as u8;
+        at + 3
     }
-    out[at] = (0xE0 + x / 4096) as u8;
-    out[at + 1] = (0x80 + x / 64 % 64) as u8;
-    out[at + 2] = (0x80 + x % 64) as u8;
-    at + 3
 }
 
 // The bytes of the code points `s`, written to the front of `out`.
@@ -159,7 +151,7 @@ pub(crate) fn encode(s: &[u16], out: &mut [u8]) -> ByteLen
 {
     let mut n: usize = 0;
     for &c in s {
-        n = put_point(c as u32, out, n);
+        n = put_point(u32::from(c), out, n);
     }
     ByteLen(n)
 }
@@ -194,11 +186,10 @@ pub(crate) fn fits(s: &[u16], room: usize) -> bool
 {
     let mut left = room;
     for &c in s {
-        let size = byte_count(c);
-        if left < size {
+        let Some(rest) = left.checked_sub(byte_count(c)) else {
             return false;
-        }
-        left -= size;
+        };
+        left = rest;
     }
     true
 }
@@ -207,7 +198,7 @@ pub(crate) fn fits(s: &[u16], room: usize) -> bool
 fn is_start(b: u8) -> bool
     ensures { result ≡ is_start b }
 {
-    b < 0x80 || 0xBF < b
+    !is_later(u32::from(b))
 }
 
 // Where the last sequence of `s` begins.

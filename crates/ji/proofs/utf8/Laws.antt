@@ -13,7 +13,9 @@ use lib.ListN.{length, take, drop, get_or}
 use lib.Seq.{drop-cons, drop-drop, get_or-drop}
 use Rattle.ucd.specs.Table.{pick_number}
 use Rattle.ji.specs.Text.{within}
-use Rattle.ji.specs.Utf8.{table37, fits_row, width_in, width_at, second_low, second_high, SequenceOf, leading, trailing, point_at}
+use Rattle.ji.specs.Utf8.{table37, fits_row, width_in, width_at, second_low, second_high, SequenceOf, ReadOf, leading, trailing, point_at}
+use Rattle.ji.specs.declared.utf8.Sequence.{Sequence}
+use Rattle.std.specs.Bool.{then_some}
 use Rattle.ji.proofs.Bools.{either, and_true, and_no, and_yes, and_left, and_right, number_yes, number_no, within_yes, within_below, within_above, within_is}
 
 -- ── a sequence by its first byte
@@ -285,3 +287,8 @@ module _ (s : List ℕ) (at : ℕ) (h : at < length s) where
 
         pub read_four_not : others ≡ false → width_at (drop at s) ≡ 0
         read_four_not e = none_here (four_width ∙ number_no _ _ _ e)
+
+-- what is read where a test says that the bytes are a sequence, and nothing elsewhere
+pub read_if : (s : List ℕ) (b : Bool) (x : Sequence) → (b ≡ true → SequenceOf s x.width x.point) → (b ≡ false → width_at s ≡ 0) → ReadOf s (then_some b x)
+read_if s true x p q = p refl
+read_if s false x p q = q refl

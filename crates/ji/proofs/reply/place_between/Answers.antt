@@ -20,8 +20,8 @@ module _ (c : After-byte_count-size) where
       let a = c.args in
       omega (arith, length-append a.before.now (bytes_of a.x ++ a.after.now), length-append (bytes_of a.x) a.after.now, c.byte_count-size.ensures.0)
 
-pub returns-then-out-before : goal.returns-then-out-before
-returns-then-out-before c = placed_not 0 (text (goal.at.returns-then-out-before c).After-byte_count-size) c.args.out.now (omega (arith, text_length (goal.at.returns-then-out-before c).After-byte_count-size, c.if-out-before.true))
+pub returns-in_default : goal.returns-in_default
+returns-in_default c = placed_not 0 (text (goal.at.returns-in_default c).After-byte_count-size) c.args.out.now (omega (arith, text_length (goal.at.returns-in_default c).After-byte_count-size))
 
 pub returns-then-left-size : goal.returns-then-left-size
 returns-then-left-size c =
@@ -35,6 +35,6 @@ returns-then-left-size c =
 pub returns : goal.returns
 returns c =
     let a = c.args in
-    let room : length a.before.now + length (bytes_of a.x) ≤ length a.out.now = omega (arith, c.byte_count-size.ensures.0, c.if-left-size.false, c.if-out-before.false) in
+    let room : length a.before.now + length (bytes_of a.x) ≤ length a.out.now = omega (arith, c.byte_count-size.ensures.0, c.if-left-size.false) in
     let w : Written a.out.now c.put_point-at.new.out c.put_point-at.result (a.before.now ++ bytes_of a.x) = rw (c.put_point-at.ensures.0, c.put_point-at.ensures.1, c.from.ensures) (written_run c.copy.ensures (bytes_of a.x) room) in
     placed_written 0 (text (goal.at.returns c).After-byte_count-size) a.out.now _ _ (rw (← append_assoc a.before.now (bytes_of a.x) a.after.now) (written_behind w c.copy-2.ensures))

@@ -57,10 +57,10 @@ module _ (c : Joined-begins_at) where
         | else-begins_at w ↦ miss pattern by s i _ _ more (sym c.begins_at.ensures ∙ w.if-begins_at.false) (ap (λ (p : ℕ × ℕ). p.0) w.width-is) (ap (λ (p : ℕ × ℕ). p.1) w.width-is)
       ]
 
-pub returns-then-left-size : goal.returns-then-left-size
-returns-then-left-size c =
+pub returns-in_default : goal.returns-in_default
+returns-in_default c =
     let a = c.args in
-    let h = piece (goal.at.returns-then-left-size c).Joined-begins_at in
+    let h = piece (goal.at.returns-in_default c).Joined-begins_at in
     sym (lt-leb (length (replace_all a.pattern.now a.by.now a.s.now)) a.room (omega (arith, h.counted)))
 
 pub overflow_add-i : goal.overflow_add-i

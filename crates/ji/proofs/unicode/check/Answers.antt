@@ -13,7 +13,7 @@ returns-then-is_ascii c =
     let a = c.args in
     ap verdict_of (sym (within_points unicode16 a.text.now a.limit c.if-limit-text.false ∙ ascii_good a.text.now (sym c.is_ascii.ensures ∙ c.if-is_ascii.true)))
 
-pub returns : goal.returns
-returns c =
+pub returns-else-is_ascii : goal.returns-else-is_ascii
+returns-else-is_ascii c =
     let a = c.args in
     c.check_points.ensures ∙ ap verdict_of (sym (within_points unicode16 a.text.now a.limit c.if-limit-text.false))

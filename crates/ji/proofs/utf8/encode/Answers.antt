@@ -26,13 +26,13 @@ loop-c-init c = ([], written_none c.args.out.now, refl)
 pub put_point-n-requires : goal.put_point-n-requires
 put_point-n-requires c =
     let l = c.loop-c in
-    (omega (arith, c.type_inv.s l.c-index), rw (written_length l.invariant.1) (room_left c.args.s.now c.args.out.now c.requires l.out l.c-index l.n l.invariant (omega arith)))
+    rw c.from.ensures (omega (arith, c.type_inv.s l.c-index), rw (written_length l.invariant.1) (room_left c.args.s.now c.args.out.now c.requires l.out l.c-index l.n l.invariant (omega arith)))
 
 pub loop-c-preserved : goal.loop-c-preserved
 loop-c-preserved c =
     let l = c.loop-c in
     let r = c.put_point-n in
-    again c.args.s.now c.args.out.now c.requires l.out l.c-index l.n l.invariant (omega arith) r.result r.new.out r.ensures.0 r.ensures.1
+    again c.args.s.now c.args.out.now c.requires l.out l.c-index l.n l.invariant (omega arith) r.result r.new.out (rw (← c.from.ensures) r.ensures.0) (rw (← c.from.ensures) r.ensures.1)
 
 pub returns : goal.returns
 returns c =

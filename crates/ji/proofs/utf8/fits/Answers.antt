@@ -6,8 +6,8 @@ use Rattle.ji.proofs.utf8.Encoding.{length_at, length_end}
 use native.Mathlib.Omega.{arith}
 use Rattle.ji.proofs.utf8.fits.Goals as goal
 
-pub returns-then-left-size : goal.returns-then-left-size
-returns-then-left-size c =
+pub returns-in_default : goal.returns-in_default
+returns-in_default c =
     let l = c.loop-c in
     let a = c.args in
     sym (lt-leb (length (encode a.s.now)) a.room (omega (arith, length_at a.s.now l.c-index (omega arith))))

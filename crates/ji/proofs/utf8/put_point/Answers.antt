@@ -44,16 +44,16 @@ returns-then-x-le2047 c =
     let a = c.args in
     stored a.out.now a.at a.x _ _ (is2 (goal.at.returns-then-x-le2047 c).Then-x-le2047) (stores_2 a.out.now a.at (0xC0 + a.x / 64) (0x80 + a.x % 64) (omega (arith, ap length (is2 (goal.at.returns-then-x-le2047 c).Then-x-le2047))))
 
-pub bounds-out-at-2 : goal.bounds-out-at-2
-bounds-out-at-2 c = omega (arith, ap length (is3 (goal.at.bounds-out-at-2 c).Else-x-le2047))
+pub bounds-out-at-else-x-le2047 : goal.bounds-out-at-else-x-le2047
+bounds-out-at-else-x-le2047 c = omega (arith, ap length (is3 (goal.at.bounds-out-at-else-x-le2047 c).Else-x-le2047))
 
-pub bounds-out-at-3 : goal.bounds-out-at-3
-bounds-out-at-3 c = simp length-set (omega (arith, ap length (is3 (goal.at.bounds-out-at-3 c).Else-x-le2047)))
+pub bounds-out-at-else-x-le2047-2 : goal.bounds-out-at-else-x-le2047-2
+bounds-out-at-else-x-le2047-2 c = simp length-set (omega (arith, ap length (is3 (goal.at.bounds-out-at-else-x-le2047-2 c).Else-x-le2047)))
 
-pub bounds-out-at-4 : goal.bounds-out-at-4
-bounds-out-at-4 c = simp length-set (omega (arith, ap length (is3 (goal.at.bounds-out-at-4 c).Else-x-le2047)))
+pub bounds-out-at-else-x-le2047-3 : goal.bounds-out-at-else-x-le2047-3
+bounds-out-at-else-x-le2047-3 c = simp length-set (omega (arith, ap length (is3 (goal.at.bounds-out-at-else-x-le2047-3 c).Else-x-le2047)))
 
-pub returns : goal.returns
-returns c =
+pub returns-else-x-le2047 : goal.returns-else-x-le2047
+returns-else-x-le2047 c =
     let a = c.args in
-    stored a.out.now a.at a.x _ _ (is3 (goal.at.returns c).Else-x-le2047) (stores_3 a.out.now a.at (0xE0 + a.x / 4096) (0x80 + a.x / 64 % 64) (0x80 + a.x % 64) (omega (arith, ap length (is3 (goal.at.returns c).Else-x-le2047))))
+    stored a.out.now a.at a.x _ _ (is3 (goal.at.returns-else-x-le2047 c).Else-x-le2047) (stores_3 a.out.now a.at (0xE0 + a.x / 4096) (0x80 + a.x / 64 % 64) (0x80 + a.x % 64) (omega (arith, ap length (is3 (goal.at.returns-else-x-le2047 c).Else-x-le2047))))
