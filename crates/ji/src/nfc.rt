@@ -13,9 +13,9 @@ use crate::text::replace_pair;
 use crate::unicode::{ByteLen, CharLen};
 use crate::{nfd, reply, unicode};
 
-// R1 and R2: c and the last starter of s give way to their composite, in the starter's place, unless c is blocked from it or they have none.
-// Says whether they did. What stands below U+0300 ends no composite, and needs no call. A search by `rposition` would have the class of
-// what it finds looked up again, to tell a starter from what blocks.
+// R1 and R2: c and the last starter of s give way to their composite, in the starter's place, unless c is blocked from
+// it or they have none. Says whether they did. What stands below U+0300 ends no composite, and needs no call. A search
+// by `rposition` would have the class of what it finds looked up again, to tell a starter from what blocks.
 fn absorb(s: &mut [u16], c: u16) -> bool
     ensures { (pick_done result (some (reversed s.new)) none ≡ absorb unicode16 c (reversed s.old))
         × (result ≡ false → s.new ≡ s.old) }
@@ -41,8 +41,8 @@ fn absorb(s: &mut [u16], c: u16) -> bool
     false
 }
 
-// Composes s from its first code point to its last. Says how many code points are left; what stands behind them stays as it was.
-// The places are counted, since those that are read and written are of one slice.
+// Composes s from its first code point to its last. Says how many code points are left; what stands behind them stays
+// as it was. The places are counted, since those that are read and written are of one slice.
 pub(crate) fn compose(s: &mut [u16]) -> usize
     ensures { (result ≡ length (compose unicode16 s.old))
         × (s.new ≡ compose unicode16 s.old ++ drop result s.old) }

@@ -11,7 +11,8 @@ use crate::reply::Refusal;
 use crate::unicode::{ByteLen, CharLen};
 use crate::{reply, unicode};
 
-// The combining class of c. `ucd` tests for U+0300 too, but in a call: most texts hold little that is not below it, and need no call.
+// The combining class of c. `ucd` tests for U+0300 too, but in a call: most texts hold little that is not below it, and
+// need no call.
 pub(crate) fn class_of(c: u16) -> u8
     ensures { result ≡ combining_class unicode16 c }
 {
@@ -58,7 +59,8 @@ fn insert(s: &mut [u16], i: usize)
     s[i..end].rotate_left(1);
 }
 
-// The insertions, from the last code point to the first. The library's stable sort asks for memory of its own, and there is none.
+// The insertions, from the last code point to the first. The library's stable sort asks for memory of its own, and
+// there is none.
 fn sort(s: &mut [u16])
     ensures { s.new ≡ order unicode16 s.old }
 {

@@ -43,7 +43,8 @@ fn spread_pair(a: u16, b: u16) -> Spread
     }
 }
 
-// What c becomes. `ucd` tests for U+00C0 too, but in a call: most texts hold little that is not below it, and need no call.
+// What c becomes. `ucd` tests for U+00C0 too, but in a call: most texts hold little that is not below it, and need no
+// call.
 fn spread_point(c: u16, decomposed: bool) -> Spread
     ensures { spread_text result ≡ spread unicode16 decomposed (c ∷ []) }
 {
@@ -93,8 +94,10 @@ fn fault_at(s: &[u8], at: usize) -> Refusal
     }
 }
 
-// The code points of `s`, as they are or fully decomposed, written to the front of `out`. Each turn steps by the width of a sequence, so that no
-// `for` fits; and ASCII has a branch of its own, without which the loop is slower by a tenth.
+// The code points of `s`, as they are or fully decomposed, written to the front of `out`. Each turn steps by the width
+// of a sequence, so that no `for` fits: an iterator over sequences would need a contract of its own, and ASCII has a
+// branch of its own here, without which the loop is slower by a tenth. Only what is not ASCII has `decomposed` tested,
+// for which a constant parameter would have the loop compiled twice.
 pub(crate) fn decode(s: &[u8], decomposed: bool, out: &mut [u16]) -> Result<CharLen, Refusal>
     requires { length (spread unicode16 decomposed (accepted unicode16 s.now)) ≤ length out.old }
     ensures { Reading unicode16 decomposed s.now out.old out.new result }
@@ -104,7 +107,7 @@ pub(crate) fn decode(s: &[u8], decomposed: bool, out: &mut [u16]) -> Result<Char
     while i < s.len() {
         let a = s[i];
         if a < 0x80 {
-            n = put(Spread::One(a as u16), out, n);
+            n = put(Spread::One(u16::from(a)), out, n);
             i += 1;
         } else {
             let Some(sequence) = utf8::read(s, i) else {
@@ -120,7 +123,8 @@ pub(crate) fn decode(s: &[u8], decomposed: bool, out: &mut [u16]) -> Result<Char
     Ok(CharLen(n))
 }
 
-// Whether all bytes of `s` are ASCII, after which nothing needs the table: the library's method, with our definition as its clause.
+// Whether all bytes of `s` are ASCII, after which nothing needs the table: the library's method, with our definition as
+// its clause.
 pub fn is_ascii(s: &[u8]) -> bool
     ensures { result ≡ all_ascii s.now }
 {
@@ -133,7 +137,7 @@ fn widen(s: &[u8], out: &mut [u16]) -> usize
     ensures { Written out.old out.new result s.now }
 {
     for (i, &b) in s.iter().enumerate() {
-        out[i] = b as u16;
+        out[i] = u16::from(b);
     }
     s.len()
 }
@@ -162,8 +166,9 @@ pub fn points(text: &[u8], out: &mut [u16]) -> Result<CharLen, Refusal>
     read_points(text, out)
 }
 
-// How many code points the bytes `s` have, or which of the two refusals they get. Each turn steps by the width of a sequence, so that no `for` fits;
-// and ASCII has a branch of its own, without which the loop is slower by a fifth.
+// How many code points the bytes `s` have, or which of the two refusals they get. Each turn steps by the width of a
+// sequence, so that no `for` fits, as in `decode`; and ASCII has a branch of its own, without which the loop is slower
+// by a fifth.
 fn count_points(s: &[u8]) -> Result<CharLen, Refusal>
     ensures { Counting unicode16 s.now result }
 {
@@ -187,7 +192,8 @@ fn count_points(s: &[u8]) -> Result<CharLen, Refusal>
     Ok(CharLen(n))
 }
 
-// Writes the code points `s` to `out`, if there is room for all of them.
+// Writes the code points `s` to `out`, if there is room for all of them: the room is of code points, where
+// `reply::place` asks for that of their bytes.
 fn place_points(s: &[u16], out: &mut [u16]) -> Result<CharLen, Refusal>
     ensures { points_reply result out.new ≡ placed 0 s.now out.old }
 {
@@ -264,8 +270,8 @@ pub fn last_start(text: &[u8]) -> ByteLen
     ByteLen(utf8::last_start(text))
 }
 
-// The code point of the last sequence of `text`, and 0 where there is none, or one of more than sixteen bits, which the table has not: 0 is
-// what the definition gives there, and callers ask for no more.
+// The code point of the last sequence of `text`, and 0 where there is none, or one of more than sixteen bits, which the
+// table has not: 0 is what the definition gives there, and callers ask for no more.
 pub fn last_point(text: &[u8]) -> u16
     ensures { result ≡ last_point text.now }
 {

@@ -41,6 +41,8 @@ fn is_second(a: u32, b: u32) -> bool
     }
 }
 
+// The sequence of two bytes at `at`. In the three of these a byte past the end reads as 0, as in Table 3-7's
+// definition, so that no pattern of the slice, for which a text that ends early is a case of its own, is plainer.
 fn read_two(s: &[u8], at: usize) -> Option<Sequence>
     requires { (at < length s.now) × (0xC2 ≤ get_or s.now at 0) × (get_or s.now at 0 ≤ 0xDF) }
     ensures { ReadOf (drop at s.now) result }
@@ -109,7 +111,9 @@ pub(crate) fn read(s: &[u8], at: usize) -> Option<Sequence>
     }
 }
 
-// Whether all of `s` from `at` on is well formed. Each turn steps by the width of a sequence, so that no `for` fits.
+// Whether all of `s` from `at` on is well formed, by the same definition as its reading, where `str::from_utf8` would
+// need the two proved equal. Each turn steps by the width of a sequence, so that no `for` fits: an iterator over
+// sequences would need a contract of its own, for one line less.
 pub(crate) fn well_formed(s: &[u8], at: usize) -> bool
     requires { at ≤ length s.now }
     ensures { result ≡ is_decoded (decode (drop at s.now)) }
@@ -124,7 +128,8 @@ pub(crate) fn well_formed(s: &[u8], at: usize) -> bool
     true
 }
 
-// Writes the bytes of the code point `x` at `at`, and returns the place behind them.
+// Writes the bytes of the code point `x` at `at`, and returns the place behind them. `char::encode_utf8` does not fit,
+// here and in `byte_count`: a code point of sixteen bits may be a surrogate, which no `char` is.
 pub(crate) fn put_point(x: u32, out: &mut [u8], at: usize) -> usize
     requires { (x ≤ 0xFFFF) × (at + length (bytes_of x) ≤ length out.old) }
     ensures { (result ≡ at + length (bytes_of x)) × (out.new ≡ paste out.old at (bytes_of x) (length (bytes_of x))) }

@@ -87,7 +87,7 @@ pub loop-i-preserved-then-a-lt128 : goal.loop-i-preserved-then-a-lt128
 loop-i-preserved-then-a-lt128 c =
     let x = c.args in
     let low = c.if-a-lt128.true in
-    again x.decomposed x.s.now x.out.now c.loop-i.out c.loop-i.i c.loop-i.n 1 (get_or x.s.now c.loop-i.i 0) c.loop-i.invariant c.loop-i-test.true (read_one x.s.now c.loop-i.i c.loop-i-test.true (omega arith)) (sym (ascii_member _ low)) (One (get_or x.s.now c.loop-i.i 0)) (sym (spread_itself x.decomposed _ (omega arith))) c.requires c.put-n.result c.put-n.new.out c.put-n.ensures.0 c.put-n.ensures.1
+    again x.decomposed x.s.now x.out.now c.loop-i.out c.loop-i.i c.loop-i.n 1 (get_or x.s.now c.loop-i.i 0) c.loop-i.invariant c.loop-i-test.true (read_one x.s.now c.loop-i.i c.loop-i-test.true (omega arith)) (sym (ascii_member _ low)) (One (get_or x.s.now c.loop-i.i 0)) (sym (spread_itself x.decomposed _ (omega arith))) c.requires c.put-n.result c.put-n.new.out c.put-n.ensures.0 (rw (← c.from.ensures) c.put-n.ensures.1)
 
 pub put-n-requires-else-a-lt128 : goal.put-n-requires-else-a-lt128
 put-n-requires-else-a-lt128 c =

@@ -21,7 +21,8 @@ loop-i-preserved c =
     let a = c.args in
     let i = c.loop-i.i in
     let h : i < length a.s.now = omega arith in
-    underway_one c.loop-i.invariant (i + 1) (get_or a.s.now i 0) (drop-cons a.s.now i 0 h ∙ ap (λ (k : ℕ). get_or a.s.now i 0 ∷ drop k a.s.now) (sym (add-one i))) (omega arith) (omega (arith, c.requires))
+    rw c.from.ensures
+    (underway_one c.loop-i.invariant (i + 1) (get_or a.s.now i 0) (drop-cons a.s.now i 0 h ∙ ap (λ (k : ℕ). get_or a.s.now i 0 ∷ drop k a.s.now) (sym (add-one i))) (omega arith) (omega (arith, c.requires)))
 
 pub returns : goal.returns
 returns c =
