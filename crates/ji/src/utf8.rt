@@ -177,11 +177,7 @@ pub(crate) fn encoded_len(s: &[u16]) -> ByteLen
     requires { length s.now ≤ 65536 }
     ensures { result.0 ≡ length (encode s.now) }
 {
-    let mut n: usize = 0;
-    for &c in s {
-        n += byte_count(c);
-    }
-    ByteLen(n)
+    ByteLen(s.iter().map(|&c| byte_count(c)).sum())
 }
 
 // Whether the bytes of the code points `s` have room in `room` bytes. It counts down what is left of the room, so that a length that no number

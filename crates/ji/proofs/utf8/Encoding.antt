@@ -8,6 +8,8 @@ use native.Mathlib.Decide.{dec_le}
 use borrow.Author.Tests.{le-leb, lt-leb}
 use lib.ListN.{length, drop, get_or, drop_of_length-le, length-append}
 use lib.Seq.{drop-cons}
+use Rattle.std.specs.Prelude.{sum_by}
+use Rattle.std.proofs.lemmas.List.Sums.{sum_by-cons}
 use Rattle.ji.specs.Utf8.{bytes_of, encode}
 use Rattle.ji.proofs.Bools.{text_yes, text_no}
 
@@ -49,6 +51,11 @@ encode_nil = refl
 pub encode_cons : (x : ℕ) (s : List ℕ) → encode (x ∷ s) ≡ bytes_of x ++ encode s
 unfolding encode
 encode_cons x s = refl
+
+-- the bytes of each, added up
+pub sizes_added : (s : List ℕ) → sum_by (λ x. length (bytes_of x)) s ≡ length (encode s)
+sizes_added [] = sym (ap length encode_nil)
+sizes_added (x ∷ s) = omega (arith, sum_by-cons (λ x. length (bytes_of x)) x s, sizes_added s, ap length (encode_cons x s), length-append (bytes_of x) (encode s))
 
 pub encode_append : (s u : List ℕ) → encode (s ++ u) ≡ encode s ++ encode u
 unfolding encode

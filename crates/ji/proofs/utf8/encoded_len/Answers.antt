@@ -1,15 +1,12 @@
-use Rattle.ji.proofs.utf8.Encoding.{length_at, length_end}
-use native.Mathlib.Omega.{arith}
+use mathlib.Core.Path.{◌≡◌, ◌∙◌}
+use lib.ListN.{length}
+use Rattle.std.proofs.Common.{rules}
+use Rattle.std.specs.Prelude.{sum_by}
+use Rattle.ji.specs.Utf8.{bytes_of}
+use Rattle.ji.proofs.utf8.Encoding.{sizes_added}
 use Rattle.ji.proofs.utf8.encoded_len.Goals as goal
-
-pub loop-c-preserved : goal.loop-c-preserved
-loop-c-preserved c =
-    let l = c.loop-c in
-    let a = c.args in
-    omega (arith, length_at a.s.now l.c-index (omega arith))
 
 pub returns : goal.returns
 returns c =
-    let l = c.loop-c in
-    let a = c.args in
-    omega (arith, length_end a.s.now l.c-index (omega arith))
+    let added : c.sum.result ≡ sum_by (λ x. length (bytes_of x)) c.args.s.now = search rules in
+    added ∙ sizes_added c.args.s.now
