@@ -232,9 +232,8 @@ pub fn code_points(text: &[u8], out: &mut [u16]) -> Result<CharLen, Refusal>
         if out.len() < text.len() {
             return Err(Refusal::NoRoom);
         }
-        return Ok(CharLen(widen(text, out)));
-    }
-    if text.len() <= 16 {
+        Ok(CharLen(widen(text, out)))
+    } else if text.len() <= 16 {
         short_points(text, out)
     } else {
         long_points(text, out)

@@ -97,8 +97,8 @@ pub(crate) fn read_at(s: &[u8], at: usize) -> Option<Sequence>
     }
 }
 
-// The same, small enough to be compiled into a caller's loop: a sequence of one byte or two is read in place, which a
-// call of `read_at` alone is too slow for.
+// The same, small enough to be compiled into a caller's loop: a sequence of one byte or two is read in place, where a
+// call for each would be too slow.
 pub(crate) fn read(s: &[u8], at: usize) -> Option<Sequence>
     requires { at < length s.now }
     ensures { ReadOf (drop at s.now) result }

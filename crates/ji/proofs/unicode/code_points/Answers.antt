@@ -10,7 +10,7 @@ returns-then-out-text c =
     let s = c.args.text.now in
     placed_not 0 s c.args.out.now c.if-out-text.true ∙ reply s (ascii_good s (sym c.is_ascii.ensures ∙ c.if-is_ascii.true)) c.args.out.now
 
-pub returns-then-is_ascii : goal.returns-then-is_ascii
-returns-then-is_ascii c =
+pub returns-else-out-text : goal.returns-else-out-text
+returns-else-out-text c =
     let s = c.args.text.now in
     placed_written 0 s c.args.out.now _ _ c.widen.ensures ∙ reply s (ascii_good s (sym c.is_ascii.ensures ∙ c.if-is_ascii.true)) c.args.out.now
