@@ -180,8 +180,9 @@ pub(crate) fn encoded_len(s: &[u16]) -> ByteLen
     ByteLen(s.iter().map(|&c| byte_count(c)).sum())
 }
 
-// Whether the bytes of the code points `s` have room in `room` bytes. It counts down what is left of the room, so that a length that no number
-// holds is refused too.
+// Whether the bytes of the code points `s` have room in `room` bytes. It counts down what is left of the room, so that
+// a length that no number holds is refused too. With `try_fold` the proof did not close: the clause of a whole run does
+// not say what was left before each turn.
 pub(crate) fn fits(s: &[u16], room: usize) -> bool
     ensures { result ≡ leb (length (encode s.now)) room }
 {
