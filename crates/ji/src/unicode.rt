@@ -270,7 +270,7 @@ pub fn last_start(text: &[u8]) -> ByteLen
 }
 
 // The code point of the last sequence of `text`, and 0 where there is none, or one of more than sixteen bits, which the
-// table has not: 0 is what the definition gives there, and callers ask for no more.
+// table has not: 0 is what the definition says there, and it is no letter.
 pub fn last_point(text: &[u8]) -> u16
     ensures { result ≡ last_point text.now }
 {
