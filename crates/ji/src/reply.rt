@@ -20,7 +20,7 @@ pub enum Refusal {
 }
 
 impl Refusal {
-    // The number of a refusal.
+    // The number of a refusal. Callers cite the clause by the method's name, which a From does not give.
     pub fn number(self) -> u64
         ensures { result ≡ refusal_number self }
     {

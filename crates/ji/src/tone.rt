@@ -2,6 +2,7 @@
 ghost use Rattle.std.specs.Prelude.{◌≡◌, ◌≤◌};
 ghost use Rattle.ji.specs.Tone.{tone_number, is_tone};
 
+// A tone, or None: no Option, since the definitions, the records and the numbers of the C interface speak of these ten values, of which None is 0.
 #[derive(Clone, Copy, PartialEq, Eq)]
 pub enum Tone {
     None = 0,
@@ -24,7 +25,7 @@ impl Tone {
         self != Tone::None
     }
 
-    // A tone as a number, 0 to 9.
+    // A tone as a number, 0 to 9. Callers cite the clause by the method's name, which a From does not give.
     pub fn number(self) -> usize
         ensures { (result ≡ tone_number self) × (result ≤ 9) }
     {

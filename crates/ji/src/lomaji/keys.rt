@@ -129,7 +129,7 @@ fn place_respelled<const POINTS: usize, const LETTERS: usize>(
     reply::place(&letters[..end], out)
 }
 
-// Writes the first `n` of `bytes`, and the key behind them.
+// Writes the first `n` of `bytes`, and the key behind them. It matches on the key as `put_key` does: a trait over the two widths would be longer.
 fn place_toned(
     bytes: &mut [u8],
     n: usize,

@@ -12,7 +12,7 @@ pub enum Khin {
 }
 
 impl Khin {
-    // Khin as a number: 0 no, 1 yes.
+    // Khin as a number: 0 no, 1 yes. Callers cite the clause by the method's name, which a From does not give.
     pub fn number(self) -> u64
         ensures { result ≡ khin_number self }
     {
@@ -20,7 +20,8 @@ impl Khin {
     }
 }
 
-// Whether `text` begins with two hyphens, or with U+00B7, which is two bytes as well.
+// Whether `text` begins with two hyphens, or with U+00B7, which is two bytes as well. `strip_khin` and `khin_of` each ask, since each is public with
+// a clause of its own.
 fn has_mark(text: &[u8]) -> bool
     ensures { result ≡ (begins (bytes "--") text.now || begins (bytes "·") text.now) }
 {

@@ -23,7 +23,8 @@ struct Marks {
     sorted: bool,
 }
 
-// Takes an ASCII character. This and the others below write at `n`, and return the place behind what they wrote.
+// Takes an ASCII character. This and the others below write at `n`, and return the place behind what they wrote. A struct of the buffer, the place
+// and the marks in their stead, passed by value, makes the walk of a long text 1.2 times slower.
 fn push_ascii(x: u8, out: &mut [u8], n: usize, marks: &mut Marks) -> usize
     requires { (x < 0x80) × (n < length out.old) }
     ensures { (result ≤ n + 1) × Further n marks.old result marks.new out.old out.new (x ∷ []) }

@@ -137,7 +137,8 @@ fn finish(s: &mut [u16], out: &mut [u8]) -> Result<StripResult, Refusal>
     place(&s[..left.0], tone, out)
 }
 
-// Strips a text step by step, in a buffer of `N` code points.
+// Strips a text step by step, in a buffer of `N` code points. That the text has at most 256 bytes is asked here and below: a struct around the text for
+// this one fact would be longer than the clauses.
 fn strip_slowly_with<const N: usize>(text: &[u8], out: &mut [u8]) -> Result<StripResult, Refusal>
     requires { (length text.now ≤ 256) × (3 * length text.now ≤ 2 * N) × (N ≤ 65536) }
     ensures { strip_reply result out.new ≡ strip_call unicode16 text.now out.old }

@@ -59,13 +59,14 @@ impl Letter for u16 {
     }
 }
 
-// The patterns go by their numbers, in the order in which they are looked for: 0 is o, a or e, and a final; then o, a, e, u, i, ng, n and m.
+// The patterns go by their numbers, in the order in which they are looked for: 0 is o, a or e, and a final; then o, a, e, u, i, ng, n and m. That
+// the search is a labelled loop over patterns and positions is a rule of the project.
 const PATTERNS: usize = 9;
 
 // The letter that each pattern begins with.
 const FIRST: [u16; PATTERNS] = [O, O, A, E, U, I, N, N, M];
 
-// The number of the letter at `i` with its case ignored, and 0 past the end, which no pattern has.
+// The number of the letter at `i` with its case ignored, and 0 past the end, as the definition reads it: no pattern has that.
 #[tactic(auto, unfolding(crate::specs::Text::lower))]
 fn letter_at<L: Letter>(s: &[L], i: usize) -> u16
     ensures { result ≡ lower (get_or (map L.number s.now) i 0) }
@@ -167,7 +168,7 @@ pub fn tone_position(s: &[u16]) -> Option<CharLen>
     Some(CharLen(at + letter_of(k)))
 }
 
-// The place of the tone letter of an ASCII text.
+// The place of the tone letter of an ASCII text: no twin in one type, since CharLen and ByteLen are two types by a rule of the project.
 pub fn ascii_tone_position(s: &[u8]) -> Option<ByteLen>
     ensures { byte_place_of result ≡ tone_letter s.now }
 {
