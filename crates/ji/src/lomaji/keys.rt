@@ -168,9 +168,10 @@ fn keys_with<const BYTES: usize, const POINTS: usize, const LETTERS: usize>(
     let n = stripped.len.0;
     let key = tone_key(kind, stripped.tone);
     if unicode::is_ascii(&bytes[..n]) {
-        return place_toned(&mut bytes, n, key, out);
+        place_toned(&mut bytes, n, key, out)
+    } else {
+        place_respelled::<POINTS, LETTERS>(form, key, &bytes[..n], out)
     }
-    place_respelled::<POINTS, LETTERS>(form, key, &bytes[..n], out)
 }
 
 // `poj_syl_to_key_sequences` and its `_oo` form: the keys of the syllable `text`, in `out`. Most syllables have at most 8

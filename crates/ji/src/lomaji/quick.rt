@@ -43,7 +43,7 @@ fn push_kept(x: u16, out: &mut [u8], n: usize, marks: &mut Marks) -> usize
     let sorted = marks.sorted && (class == 0 || marks.class <= class);
     marks.sorted = sorted;
     marks.class = class;
-    utf8::put_point(x as u32, out, n)
+    utf8::put_point(u32::from(x), out, n)
 }
 
 // Takes a code point that decomposes no further.
@@ -54,9 +54,10 @@ fn push(x: u16, out: &mut [u8], n: usize, marks: &mut Marks) -> usize
     let tone = mark_tone(x);
     if tone.is_tone() {
         marks.tone = tone;
-        return n;
+        n
+    } else {
+        push_kept(x, out, n, marks)
     }
-    push_kept(x, out, n, marks)
 }
 
 // Takes the decomposition of a code point. Most are ASCII here, and decompose no further.
@@ -165,9 +166,10 @@ fn push_point(c: u16, out: &mut [u8], n: usize, marks: &mut Marks) -> usize
     ensures { (result ≤ n + 9) × Further n marks.old result marks.new out.old out.new (full unicode16 (c ∷ [])) }
 {
     if c == 0x0358 {
-        return push_kept(c, out, n, marks);
+        push_kept(c, out, n, marks)
+    } else {
+        push_decomposed(c, out, n, marks)
     }
-    push_decomposed(c, out, n, marks)
 }
 
 // The stripped text of `s`, in UTF-8, written to the front of `out`: its length, and the tone of its last mark, Tone::None where it has none. Each turn

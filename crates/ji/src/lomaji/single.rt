@@ -50,7 +50,7 @@ pub(crate) fn marked_at(s: &[u8], at: usize) -> Option<MarkedLetter>
 {
     match &s[at..] {
         [a @ 0xC0..=0xDF, b @ 0x80..=0xBF, ..] => {
-            quick::letter(*a as u16 % 32 * 64 + *b as u16 % 64)
+            quick::letter(u16::from(*a) % 32 * 64 + u16::from(*b) % 64)
         }
         _ => None,
     }

@@ -11,7 +11,6 @@ ghost use Rattle.ji.specs.Lomaji.Strip.{mark_tone, without_marks, dropped_marks,
 
 use crate::lomaji::{quick, single};
 use crate::reply::Refusal;
-use crate::text::lower_byte;
 use crate::tone::Tone;
 use crate::unicode::{ByteLen, CharLen};
 use crate::{nfd, reply, unicode, utf8};
@@ -83,7 +82,7 @@ fn ends_in_any(s: &[u8]) -> bool
     let Some(&last) = s.last() else {
         return false;
     };
-    match lower_byte(last) {
+    match last.to_ascii_lowercase() {
         b'h' => ends_in(b"h", s),
         b'p' => ends_in(b"p", s),
         b't' => ends_in(b"t", s),

@@ -87,8 +87,8 @@ returns-in_err-stripped g c =
     (strip_not a.text.now _ stripped.new.out c.in_err-stripped.field-0.0 (omega arith)
     (ap (λ (x : Result StripResult Refusal). strip_reply x stripped.new.out) (sym c.in_err-stripped.was) ∙ stripped.ensures)))
 
-pub returns : goal.returns
-returns g c =
+pub returns-else-is_ascii : goal.returns-else-is_ascii
+returns-else-is_ascii g c =
     let a = c.args in
     let was = c.in_ok-stripped.was in
     let told = c.strip_tone_diacritic.ensures in

@@ -1,4 +1,4 @@
-use mathlib.Core.Path.{◌≡◌, sym, ◌∙◌}
+use mathlib.Core.Path.{◌≡◌, sym, ap, ◌∙◌}
 use mathlib.Core.Bool.{Bool, true, false}
 use mathlib.Core.List.{List, [], ◌∷◌, ◌++◌}
 use mathlib.Core.Logic.{◌⊎◌, inl, inr}
@@ -36,7 +36,7 @@ module _ (n : ℕ) (p : Marks) (x : ℕ) (small : x ≤ 0xFFFF) (out out' : List
   mark kept class is sorted k = (few, λ before s h. stripping_behind before out n p s h x kept _ r (wrote before s h) class is sorted k)
 
 pub put_point-requires : goal.put_point-requires
-put_point-requires c = let small : c.args.x ≤ 0xFFFF = omega arith in (small, omega (arith, bytes_most c.args.x small))
+put_point-requires c = let small : c.args.x ≤ 0xFFFF = omega arith in rw c.from.ensures (small, omega (arith, bytes_most c.args.x small))
 
 pub returns : goal.returns
 returns c =
@@ -49,4 +49,4 @@ returns c =
       | then-marks+else-class-eq0 w ↦ λ z. (w.if-marks.true, inr (leb-true _ _ (sym w.sorted-is ∙ z)))
       | else-marks w ↦ λ z. absurd (false_true (sym w.if-marks.false ∙ sym w.sorted-is ∙ z))
     ] in
-    mark a.n a.marks.now a.x (omega (arith, c.ranges.x)) a.out.now _ w.result w.ensures.0 w.ensures.1 c.requires.1 c.requires.0 class c.class_of-class.ensures c.if-marks.sorted k
+    mark a.n a.marks.now a.x (omega (arith, c.ranges.x)) a.out.now _ w.result (w.ensures.0 ∙ ap (λ (x : ℕ). a.n + length (bytes_of x)) c.from.ensures) (w.ensures.1 ∙ ap (λ (x : ℕ). paste a.out.now a.n (bytes_of x) (length (bytes_of x))) c.from.ensures) c.requires.1 c.requires.0 class c.class_of-class.ensures c.if-marks.sorted k

@@ -1,5 +1,5 @@
-use mathlib.Core.Path.{◌≡◌, refl}
-use Prim.Native.Nat.{◌/◌}
+use mathlib.Core.Path.{◌≡◌, ap₂}
+use Prim.Native.Nat.{ℕ, ◌+◌, ◌*◌, ◌/◌, ◌%◌}
 use lib.ListN.{get_or}
 use Rattle.std.proofs.lemmas.Option.{IfSome_then}
 use Rattle.ji.proofs.lomaji.single.Laws.{part, letter_marked}
@@ -12,4 +12,5 @@ returns-in-192-to-223 c =
     let at = c.args.at in
     let first : get_or (part s at) 0 0 / 32 ≡ 6 = omega arith in
     let second : get_or (part s at) 1 0 / 64 ≡ 2 = omega arith in
-    IfSome_then c.letter.result c.letter.ensures (λ x l. letter_marked s at _ x c.in-192-to-223.len_at_least first second refl l)
+    let here = ap₂ (λ (x y : ℕ). x % 32 * 64 + y % 64) c.from.ensures c.from-in-192-to-223.ensures in
+    IfSome_then c.letter.result c.letter.ensures (λ x l. letter_marked s at _ x c.in-192-to-223.len_at_least first second here l)
