@@ -11,7 +11,6 @@ use crate::lomaji::quick::MarkedLetter;
 use crate::lomaji::strip::StripResult;
 use crate::reply;
 use crate::reply::Refusal;
-use crate::unicode::ByteLen;
 
 // Where the first byte from `from` on stands that is not ASCII. Most bytes are, and a loop of its own is the quickest way past them.
 fn ascii_to(s: &[u8], from: usize) -> usize
@@ -66,14 +65,8 @@ pub(crate) fn place_marked(
     requires { (at + 2 ≤ length text.now) × (letter.ascii < 0x80) }
     ensures { strip_reply result out.new ≡ placed (tone_number letter.tone) (take at text.now ++ (letter.ascii ∷ drop (at + 2) text.now)) out.old }
 {
-    if out.len() < text.len() - 1 {
-        return Err(Refusal::NoRoom);
-    }
-    reply::copy(&text[..at], out);
-    out[at] = letter.ascii;
-    reply::copy(&text[at + 2..], &mut out[at + 1..]);
-    Ok(StripResult {
-        len: ByteLen(text.len() - 1),
-        tone: letter.tone,
-    })
+    let ascii = u16::from(letter.ascii);
+    let len = reply::place_between(&text[..at], ascii, &text[at + 2..], out)?;
+    let tone = letter.tone;
+    Ok(StripResult { len, tone })
 }

@@ -13,7 +13,7 @@ use crate::lomaji::{quick, single};
 use crate::reply::Refusal;
 use crate::tone::Tone;
 use crate::unicode::{ByteLen, CharLen};
-use crate::{nfd, reply, unicode, utf8};
+use crate::{nfd, reply, unicode};
 
 // The length of the stripped text, and the tone.
 #[derive(Clone, Copy)]
@@ -118,10 +118,7 @@ fn place(s: &[u16], last: Tone, out: &mut [u8]) -> Result<StripResult, Refusal>
     requires { length s.now ≤ 65536 }
     ensures { strip_reply result out.new ≡ placed (tone_number (tone_or last (unmarked_tone (encode s.now)))) (encode s.now) out.old }
 {
-    if out.len() < utf8::encoded_len(s).0 {
-        return Err(Refusal::NoRoom);
-    }
-    let len = utf8::encode(s, out);
+    let len = reply::place(s, out)?;
     let tone = tone_of(last, &out[..len.0]);
     Ok(StripResult { len, tone })
 }
@@ -163,11 +160,7 @@ fn strip_slowly(text: &[u8], out: &mut [u8]) -> Result<StripResult, Refusal>
 fn place_bytes(s: &[u8], last: Tone, out: &mut [u8]) -> Result<StripResult, Refusal>
     ensures { strip_reply result out.new ≡ placed (tone_number (tone_or last (unmarked_tone s.now))) s.now out.old }
 {
-    if out.len() < s.len() {
-        return Err(Refusal::NoRoom);
-    }
-    reply::copy(s, out);
-    let len = ByteLen(s.len());
+    let len = reply::place_bytes(s, out)?;
     let tone = tone_of(last, s);
     Ok(StripResult { len, tone })
 }
