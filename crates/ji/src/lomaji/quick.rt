@@ -60,7 +60,8 @@ fn push(x: u16, out: &mut [u8], n: usize, marks: &mut Marks) -> usize
     }
 }
 
-// Takes the decomposition of a code point. Most are ASCII here, and decompose no further.
+// Takes the decomposition of a code point. Most are ASCII here, and decompose no further: `unicode::spread_point` looks each of them up, and its
+// three cases would be matched here once more, so that this and `push_decomposed` go through the two passes themselves.
 fn push_first(a: u16, out: &mut [u8], n: usize, marks: &mut Marks) -> usize
     requires { n + 6 ≤ length out.old }
     ensures { (result ≤ n + 6) × Further n marks.old result marks.new out.old out.new (decomposition unicode16 a) }

@@ -12,17 +12,15 @@ use crate::lomaji::strip::StripResult;
 use crate::reply;
 use crate::reply::Refusal;
 
-// Where the first byte from `from` on stands that is not ASCII. Most bytes are, and a loop of its own is the quickest way past them.
+// Where the first byte from `from` on stands that is not ASCII. Most bytes are, and a search of its own is the quickest way past them.
 fn ascii_to(s: &[u8], from: usize) -> usize
     requires { from ≤ length s.now }
     ensures { (from ≤ result) × (result ≤ length s.now) × KeptTo s.now from result }
 {
-    for i in from..s.len() {
-        if 0x7F < s[i] {
-            return i;
-        }
+    match s[from..].iter().position(|b| !b.is_ascii()) {
+        Some(i) => from + i,
+        None => s.len(),
     }
-    s.len()
 }
 
 // Where the first code point from `from` on stands that is not ASCII, U+0358 or ⁿ; these are their own NFD, and no tone marks. Each turn steps by the

@@ -1,14 +1,21 @@
 -- A text with at most one tone mark: all of it but the letter with the mark is its own NFD and stays, and that letter leaves its base.
 use mathlib.Core.Path.{◌≡◌, refl, sym, ap, ap₂, ◌∙◌, subst}
-use mathlib.Core.Bool.{Bool, true, false}
+use mathlib.Core.Bool.{Bool, true, false, cond}
 use mathlib.Core.List.{List, [], ◌∷◌, ◌++◌, append_assoc, append-nil}
 use mathlib.Core.Logic.{◌⊎◌, inl, inr}
-use Prim.Native.Nat.{ℕ, ◌+◌, ◌-◌, ◌*◌, ◌/◌, ◌%◌, ◌≤◌, ◌<◌}
+use Prim.Native.Nat.{ℕ, zero, suc, ◌+◌, ◌-◌, ◌*◌, ◌/◌, ◌%◌, ◌≤◌, ◌<◌}
 use native.Mathlib.Omega.{arith}
 use native.Mathlib.Numerals.{add-one}
 use native.Mathlib.Decide.{dec_le}
 use lib.ListN.{length, take, drop, get_or, length-append, length-drop}
 use lib.Seq.{drop-cons, drop-length, take_at, take_all, get_or-drop}
+use lib.Dec.{ltb}
+use borrow.Author.Tests.{ltb-true, ltb-false}
+use Rattle.std.specs.Prelude.{Some, None as None', not}
+use Rattle.std.specs.Char.{is_ascii}
+use Rattle.std.specs.List.{position_or_len}
+use Rattle.std.proofs.lemmas.List.Sums.{fails_before_first}
+use Rattle.std.proofs.Common.{rules, tests}
 use Rattle.ucd.specs.Table.{All, Atom, in_ranges, mapping_in, class_in, member, decomposition, combining_class}
 use Rattle.ucd.specs.Full.{full}
 use Rattle.ucd.specs.Unicode16.{unicode16, ranges16, mappings16, classes16}
@@ -219,7 +226,7 @@ ascii_at s i h low = one_at s i h ∙ ap (λ (l : List ℕ). l ++ drop (i + 1) s
 abbrev pub part : List ℕ → ℕ → List ℕ
 part s i = take (length s - i) (drop i s)
 
-part_is : (s : List ℕ) (i : ℕ) → part s i ≡ drop i s
+pub part_is : (s : List ℕ) (i : ℕ) → part s i ≡ drop i s
 part_is s i = take_all (length s - i) (drop i s) (omega (arith, length-drop i s))
 
 pub byte_in : (s : List ℕ) (i k : ℕ) → get_or (part s i) k 0 ≡ get_or s (i + k) 0
@@ -283,3 +290,43 @@ letter_marked s at c x h a b is l =
           ∙ ap (λ (u : List ℕ). u ++ drop (at + 2) s) (sym (bytes_two c (not_ascii c x.ascii l.0 l.1) (omega arith))),
       l,
     )
+
+-- ASCII from `from` on is kept
+pub ascii_kept : (s : List ℕ) (from k : ℕ) → from + k ≤ length s → ((j : ℕ) → j < k → get_or (drop from s) j 0 < 0x80) → KeptTo s from (from + k)
+ascii_kept s from zero h low = subst (KeptTo s from) (let e : from ≡ from + 0 = omega arith in e) (kept_start s from)
+ascii_kept s from (suc k) h low =
+    let here : get_or s (from + k) 0 < 0x80 = subst (λ (x : ℕ). x < 0x80) (get_or-drop from s k 0) (low k (omega arith)) in
+    let e : from + k + 1 ≡ from + suc k = omega arith in
+    subst (KeptTo s from) e
+    (kept_more s from (from + k) (from + k + 1) _ (ascii_kept s from k (omega arith) (λ j m. low j (omega arith))) (inl (omega (arith, here))) (ascii_at s (from + k) (omega arith) here))
+
+-- the first byte that is not ASCII, as `position` gives it
+module _ (s : List ℕ) (from : ℕ) (inside : from ≤ length s) where
+  abbrev other : ℕ → Bool
+  other b = not (is_ascii b)
+
+  abbrev first : ℕ
+  first = position_or_len other (drop from s)
+
+  low_before : (j : ℕ) → j < first → get_or (drop from s) j 0 < 0x80
+  low_before j h = let e : not (is_ascii (get_or (drop from s) j 0)) ≡ false = fails_before_first other (drop from s) j 0 h in search (rules, tests)
+
+  some_first : (b : Bool) (i : ℕ) → Some i ≡ cond b (Some first) None' → (i ≡ first) × (b ≡ true)
+  some_first true i e = (cc, refl)
+  some_first false i e = cc
+
+  none_first : (b : Bool) → None' ≡ cond b (Some first) None' → b ≡ false
+  none_first true e = cc
+  none_first false e = refl
+
+  pub ascii_to_some : (i : ℕ) → Some i ≡ cond (ltb first (length (drop from s))) (Some first) None' → (from + i ≤ length s) × KeptTo s from (from + i)
+  ascii_to_some i e =
+      let p = some_first _ i e in
+      let room : from + i ≤ length s = omega (arith, p.0, ltb-true _ _ p.1, length-drop from s) in
+      (room, ascii_kept s from i room (λ j h. low_before j (omega (arith, p.0, h))))
+
+  pub ascii_to_none : None' ≡ cond (ltb first (length (drop from s))) (Some first) None' → KeptTo s from (length s)
+  ascii_to_none e =
+      let n : length (drop from s) ≤ first = ltb-false _ _ (none_first _ e) in
+      let k : from + (length s - from) ≡ length s = omega arith in
+      subst (KeptTo s from) k (ascii_kept s from (length s - from) (omega arith) (λ j h. low_before j (omega (arith, n, h, length-drop from s))))

@@ -1,27 +1,25 @@
-use mathlib.Core.Path.{◌≡◌, subst}
-use mathlib.Core.Logic.{inl}
-use Prim.Native.Nat.{ℕ, ◌+◌, ◌≤◌}
-use lib.ListN.{length}
-use Rattle.ji.specs.Lomaji.Single.{KeptTo}
-use Rattle.ji.proofs.lomaji.single.Laws.{ascii_at, kept_start, kept_more}
+use mathlib.Core.Path.{sym, ◌∙◌}
 use native.Mathlib.Omega.{arith}
+use lib.ListN.{drop}
+use Rattle.std.specs.Prelude.{not}
+use Rattle.std.specs.Char.{is_ascii}
+use Rattle.std.proofs.Common.{rules, tests}
+use Rattle.std.proofs.lemmas.Iterator.{YieldsList-from_slice}
+use Rattle.std.proofs.lemmas.Iterator.Search.{position_from_yields_List}
+use Rattle.ji.proofs.lomaji.single.Laws.{part_is, ascii_to_some, ascii_to_none}
 use Rattle.ji.proofs.lomaji.single.ascii_to.Goals as goal
 
-pub loop-i-init : goal.loop-i-init
-loop-i-init c = (omega arith, c.requires, kept_start c.args.s.now c.args.from)
-
-pub returns-then-s-i-gt127 : goal.returns-then-s-i-gt127
-returns-then-s-i-gt127 c = c.loop-i.invariant
-
-pub loop-i-preserved : goal.loop-i-preserved
-loop-i-preserved c =
-    let l = c.loop-i in
+pub returns-in-Some : goal.returns-in-Some
+returns-in-Some c =
     let a = c.args in
-    let low = c.if-s-i-gt127.false in
-    (omega (arith, l.invariant.0), omega (arith, c.loop-i-test.true), kept_more a.s.now a.from l.i (l.i + 1) _ l.invariant.2 (inl (omega (arith, low))) (ascii_at a.s.now l.i c.loop-i-test.true (omega (arith, low))))
+    let rest = drop a.from a.s.now in
+    let found = position_from_yields_List (λ b. not (is_ascii b)) _ _ c.position.result c.position.ensures.ran (YieldsList-from_slice rest (c.iter.ensures.rest ∙ part_is a.s.now a.from)) (λ x b q k. search (rules, tests)) in
+    let to = ascii_to_some a.s.now a.from c.requires c.in-Some.i (sym c.in-Some.is ∙ found) in
+    (omega arith, to.0, to.1)
 
-pub returns : goal.returns
-returns c =
+pub returns-in-None : goal.returns-in-None
+returns-in-None c =
     let a = c.args in
-    let end : c.loop-i.i ≡ length a.s.now = omega arith in
-    subst (λ (to : ℕ). (a.from ≤ to) × (to ≤ length a.s.now) × KeptTo a.s.now a.from to) end c.loop-i.invariant
+    let rest = drop a.from a.s.now in
+    let found = position_from_yields_List (λ b. not (is_ascii b)) _ _ c.position.result c.position.ensures.ran (YieldsList-from_slice rest (c.iter.ensures.rest ∙ part_is a.s.now a.from)) (λ x b q k. search (rules, tests)) in
+    (c.requires, omega arith, ascii_to_none a.s.now a.from c.requires (sym c.in-None.is ∙ found))
