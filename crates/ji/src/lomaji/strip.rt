@@ -115,7 +115,6 @@ fn tone_of(last: Tone, s: &[u8]) -> Tone
 
 // Writes the stripped text `s` to `out`, and answers its length and its tone.
 fn place(s: &[u16], last: Tone, out: &mut [u8]) -> Result<StripResult, Refusal>
-    requires { length s.now ≤ 65536 }
     ensures { strip_reply result out.new ≡ placed (tone_number (tone_or last (unmarked_tone (encode s.now)))) (encode s.now) out.old }
 {
     let len = reply::place(s, out)?;
@@ -125,7 +124,6 @@ fn place(s: &[u16], last: Tone, out: &mut [u8]) -> Result<StripResult, Refusal>
 
 // Puts the fully decomposed text `s` into canonical order, drops its marks and writes what is left.
 fn finish(s: &mut [u16], out: &mut [u8]) -> Result<StripResult, Refusal>
-    requires { length s.old ≤ 65536 }
     ensures { strip_reply result out.new ≡ stripped_reply (order unicode16 s.old) out.old }
 {
     nfd::order(s);
