@@ -168,7 +168,7 @@ pub fn tone_position(s: &[u16]) -> Option<CharLen>
     Some(CharLen(at + letter_of(k)))
 }
 
-// The place of the tone letter of an ASCII text: no twin in one type, since CharLen and ByteLen are two types by a rule of the project.
+// The place of the tone letter of an ASCII text. It is no case of `tone_position`, since CharLen and ByteLen are two types by a rule of the project.
 pub fn ascii_tone_position(s: &[u8]) -> Option<ByteLen>
     ensures { byte_place_of result ≡ tone_letter s.now }
 {
