@@ -331,9 +331,9 @@ module _ (t : Table) (keys target buffer : List ℕ) where
   unfolding align_call
   align_keys_refused why e = sym (ap (λ (k : Checked). align_of t k (check_text t target) buffer) e)
 
-  pub align_keys_good : check_keys keys ≡ good keys → align_of t (good keys) (check_text t target) buffer ≡ align_call t keys target buffer
+  pub align_keys_good : (checked : List ℕ) → check_keys keys ≡ good checked → align_of t (good checked) (check_text t target) buffer ≡ align_call t keys target buffer
   unfolding align_call
-  align_keys_good e = sym (ap (λ (k : Checked). align_of t k (check_text t target) buffer) e)
+  align_keys_good checked e = sym (ap (λ (k : Checked). align_of t k (check_text t target) buffer) e)
 
   pub align_target_refused : (why : Refusal) → check_text t target ≡ bad why → refused why buffer ≡ align_of t (good keys) (check_text t target) buffer
   align_target_refused why e = sym (ap (λ (k : Checked). align_of t (good keys) k buffer) e)

@@ -143,6 +143,9 @@ abbrev pub spelling : ℕ → List ℕ → List ℕ
 spelling vowel u = encode (respell (sign_rules (vowel ∷ [])) (respell below_rules u))
 
 module _ (vowel : ℕ) (low : vowel < 0x80) where
+  wide : vowel < 0x100
+  wide = omega (arith, low)
+
   abbrev signs : List ℕ → List ℕ
   signs s = respell (sign_rules (vowel ∷ [])) s
 
@@ -152,15 +155,15 @@ module _ (vowel : ℕ) (low : vowel < 0x80) where
       ∙ ap (λ (l : List ℕ). encode (signs (four (three l)))) (replace_nil (0x55 ∷ 0x0324 ∷ []) (points "Eu"))
       ∙ ap (λ (l : List ℕ). encode (signs (four l))) (replace_nil (0x6F ∷ 0x0324 ∷ []) (points "eo"))
       ∙ ap (λ (l : List ℕ). encode (signs l)) (replace_nil (0x4F ∷ 0x0324 ∷ []) (points "Eo"))
-      ∙ ap encode (signs_end vowel low)
+      ∙ ap encode (signs_end vowel wide)
       ∙ encode_nil
 
   spelling_other : (c : ℕ) (u : List ℕ) → lowered (c ∷ u) ≡ c ∷ lowered u → (c ≡ 0x0358 → ⊥) → (c ≡ point "ⁿ" → ⊥) → spelling vowel (c ∷ u) ≡ bytes_of c ++ spelling vowel u
-  spelling_other c u e n m = ap (λ (l : List ℕ). encode (signs l)) e ∙ ap encode (sign_other vowel low c (lowered u) n m) ∙ encode_cons c (signs (lowered u))
+  spelling_other c u e n m = ap (λ (l : List ℕ). encode (signs l)) e ∙ ap encode (sign_other vowel wide c (lowered u) n m) ∙ encode_cons c (signs (lowered u))
 
   ascii_one : (c : ℕ) (s : List ℕ) → c ≤ 0x7F → encode (signs (c ∷ s)) ≡ c ∷ encode (signs s)
   ascii_one c s h =
-      ap encode (sign_other vowel low c s (λ e. omega (arith, e)) (λ e. omega (arith, e)))
+      ap encode (sign_other vowel wide c s (λ e. omega (arith, e)) (λ e. omega (arith, e)))
       ∙ encode_cons c (signs s)
       ∙ ap (λ (l : List ℕ). l ++ encode (signs s)) (bytes_one c h)
 
@@ -168,7 +171,7 @@ module _ (vowel : ℕ) (low : vowel < 0x80) where
   unfolding takes_below listed
   spelling_dot u =
       ap (λ (l : List ℕ). encode (signs l)) (lowered_other 0x0358 u refl)
-      ∙ ap encode (sign_vowel vowel low 0x0358 (lowered u) refl)
+      ∙ ap encode (sign_vowel vowel wide 0x0358 (lowered u) refl)
       ∙ encode_cons vowel (signs (lowered u))
       ∙ ap (λ (l : List ℕ). l ++ spelling vowel u) (bytes_one vowel (omega arith))
 
@@ -176,7 +179,7 @@ module _ (vowel : ℕ) (low : vowel < 0x80) where
   unfolding takes_below listed
   spelling_nasal u =
       ap (λ (l : List ℕ). encode (signs l)) (lowered_other (point "ⁿ") u refl)
-      ∙ ap encode (sign_nasal vowel low (point "ⁿ") (lowered u) (λ e. omega (arith, e)) refl)
+      ∙ ap encode (sign_nasal vowel wide (point "ⁿ") (lowered u) (λ e. omega (arith, e)) refl)
       ∙ encode_cons 0x6E (0x6E ∷ signs (lowered u))
       ∙ ap₂ ◌++◌ (bytes_one 0x6E (omega arith)) (encode_cons 0x6E (signs (lowered u)) ∙ ap (λ (l : List ℕ). l ++ spelling vowel u) (bytes_one 0x6E (omega arith)))
 

@@ -53,7 +53,7 @@ below_length s =
     ∙ replace_same_length (0x75 ∷ 0x0324 ∷ []) (points "eu") (omega arith) refl s
 
 -- ── the two signs, in one pass
-module _ (vowel : ℕ) (low : vowel < 0x80) where
+module _ (vowel : ℕ) (low : vowel < 0x100) where
   abbrev pub signs : List ℕ → List ℕ
   signs s = respell (sign_rules (vowel ∷ [])) s
 

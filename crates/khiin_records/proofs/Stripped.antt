@@ -1,8 +1,8 @@
 -- A text that was stripped: what stands behind khin, and what its raw input ends in.
-use mathlib.Core.Path.{◌≡◌, ap, ◌∙◌}
+use mathlib.Core.Path.{◌≡◌, sym, ap, ◌∙◌}
 use mathlib.Core.Bool.{true}
 use mathlib.Core.List.{List}
-use Prim.Native.Nat.{ℕ, ◌-◌, ◌≤◌}
+use Prim.Native.Nat.{ℕ, ◌≤◌}
 use native.Mathlib.Omega.{arith}
 use lib.ListN.{length, take, replicate, length-replicate}
 use Rattle.ji.specs.Unicode.{unicode16}
@@ -12,8 +12,7 @@ use Rattle.ji.specs.Lomaji.Strip.{strip}
 use Rattle.ji.specs.Lomaji.Khin.{after_khin, khin_of, without_khin, khin_in}
 use Rattle.ji.specs.declared.lomaji.khin.Khin.{Khin}
 use Rattle.ji.specs.declared.lomaji.strip.StripResult.{StripResult}
-use Rattle.ji.proofs.Writing.{written_length}
-use Rattle.ji.proofs.Readings.{front}
+use Rattle.ji.proofs.Writing.{written_take}
 use Rattle.ji.proofs.lomaji.khin.Laws.{after_khin_length, after_points, khin_points}
 use Rattle.ji.proofs.lomaji.strip.Answers.{Stripping}
 use Rattle.khiin_records.proofs.Candidates.{tone_some}
@@ -26,16 +25,16 @@ module _ (text after : List ℕ) (N : ℕ) (r : StripResult) (h : Stripping text
   pub toned : is_tone r.tone ≡ true
   toned = ap is_tone h.tone ∙ tone_some unicode16 h.points
 
-  pub within : r.len.0 ≤ length after
-  within = omega (arith, h.written.fits, written_length h.written)
+  pub within : r.len.0 ≡ length (take r.len.0 after)
+  within = sym (ap length (written_take h.written) ∙ h.written.size)
 
-  module _ (rest : List ℕ) (is : rest ≡ after_khin (take (r.len.0 - 0) after)) where
+  module _ (rest : List ℕ) (is : rest ≡ after_khin (take r.len.0 after)) where
     pub rest_short : length rest ≤ N
     rest_short =
-        omega (arith, ap length is, after_khin_length (take (r.len.0 - 0) after), ap length (front h.written), h.written.size, h.written.fits, length-replicate {A = ℕ} N 0)
+        omega (arith, ap length is, after_khin_length (take r.len.0 after), ap length (written_take h.written), h.written.size, h.written.fits, length-replicate {A = ℕ} N 0)
 
     pub rest_is : rest ≡ encode (without_khin stripped)
-    rest_is = is ∙ ap after_khin (front h.written) ∙ after_points stripped
+    rest_is = is ∙ ap after_khin (written_take h.written) ∙ after_points stripped
 
-  pub khin_is : (khin : Khin) → khin ≡ khin_of (take (r.len.0 - 0) after) → khin ≡ khin_in stripped
-  khin_is khin is = is ∙ ap khin_of (front h.written) ∙ khin_points stripped
+  pub khin_is : (khin : Khin) → khin ≡ khin_of (take r.len.0 after) → khin ≡ khin_in stripped
+  khin_is khin is = is ∙ ap khin_of (written_take h.written) ∙ khin_points stripped

@@ -1,6 +1,7 @@
 pub mod Syllable
 pub mod Endings
 pub mod Records
+pub mod Keys
 pub mod RawBytes
 pub mod Alignment
 pub mod Prefixes

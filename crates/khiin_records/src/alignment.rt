@@ -14,6 +14,7 @@ use crate::Record;
 use crate::ending::Ending;
 use crate::from_composed::{again, spell};
 use crate::from_raw::place_keys;
+use crate::keys::Keys;
 use ji::lomaji::dot::holds_dot;
 use ji::lomaji::khin::Khin;
 use ji::lomaji::{khin, strip};
@@ -44,7 +45,7 @@ fn candidate_prefix(keys: &[u8], s: &[u8], vowel: u8, ending: Ending, letters: &
 {
     let spelled = spell(s, vowel, letters);
     let len = ending.put(letters, spelled.len);
-    shared_prefix(keys, &letters[0..len])
+    shared_prefix(keys, &letters[..len])
 }
 
 // Whether the later of two candidates is taken, by how many keys are shared with each: of two that share as many it is the later.
@@ -55,13 +56,13 @@ fn takes_later(earlier: usize, later: usize) -> bool
 }
 
 // How many keys are shared with the candidate that shares most: the one with u or, where U+0358 occurs, the one with o. `letters` is used up.
-fn spelled_prefix(keys: &[u8], s: &[u8], ending: Ending, letters: &mut [u8]) -> usize
-    requires { (all_ascii keys.now ≡ true) × (length s.now + 2 ≤ length letters.old) }
-    ensures { NearestPrefix keys.now s.now ending result }
+fn spelled_prefix(keys: Keys, s: &[u8], ending: Ending, letters: &mut [u8]) -> usize
+    requires { length s.now + 2 ≤ length letters.old }
+    ensures { NearestPrefix keys.entry.bytes.now s.now ending result }
 {
-    let earlier = candidate_prefix(keys, s, b'u', ending, letters);
+    let earlier = candidate_prefix(keys.bytes, s, b'u', ending, letters);
     if holds_dot(s) {
-        let later = candidate_prefix(keys, s, b'o', ending, letters);
+        let later = candidate_prefix(keys.bytes, s, b'o', ending, letters);
         if takes_later(earlier, later) {
             return later;
         }
@@ -70,9 +71,9 @@ fn spelled_prefix(keys: &[u8], s: &[u8], ending: Ending, letters: &mut [u8]) -> 
 }
 
 // The same with N bytes for the candidates.
-fn spelled_within<const N: usize>(keys: &[u8], s: &[u8], ending: Ending) -> usize
-    requires { (all_ascii keys.now ≡ true) × (length s.now + 2 ≤ N) × (N ≤ 642) }
-    ensures { NearestPrefix keys.now s.now ending result }
+fn spelled_within<const N: usize>(keys: Keys, s: &[u8], ending: Ending) -> usize
+    requires { (length s.now + 2 ≤ N) × (N ≤ 642) }
+    ensures { NearestPrefix keys.entry.bytes.now s.now ending result }
 {
     let mut letters = [0u8; N];
     spelled_prefix(keys, s, ending, &mut letters)
@@ -108,21 +109,22 @@ fn digits_prefix(keys: &[u8], at: usize, ending: Ending) -> usize
 }
 
 // The same of an ASCII text, which is the body of its one candidate: nothing is spelled, and nothing copied.
-fn plain_prefix(keys: &[u8], s: &[u8], ending: Ending) -> usize
-    requires { (all_ascii keys.now ≡ true) × (all_ascii s.now ≡ true) }
-    ensures { NearestPrefix keys.now s.now ending result }
+fn plain_prefix(keys: Keys, s: &[u8], ending: Ending) -> usize
+    requires { all_ascii s.now ≡ true }
+    ensures { NearestPrefix keys.entry.bytes.now s.now ending result }
 {
-    let body = shared_prefix(keys, s);
+    let body = shared_prefix(keys.bytes, s);
     if body < s.len() {
-        return body;
+        body
+    } else {
+        body + digits_prefix(keys.bytes, body, ending)
     }
-    body + digits_prefix(keys, body, ending)
 }
 
 // The same of any text. Of a short one clearing a small buffer is quicker.
-fn nearest_prefix(keys: &[u8], s: &[u8], ending: Ending) -> usize
-    requires { (all_ascii keys.now ≡ true) × (length s.now ≤ 640) }
-    ensures { NearestPrefix keys.now s.now ending result }
+fn nearest_prefix(keys: Keys, s: &[u8], ending: Ending) -> usize
+    requires { length s.now ≤ 640 }
+    ensures { NearestPrefix keys.entry.bytes.now s.now ending result }
 {
     if unicode::is_ascii(s) {
         plain_prefix(keys, s, ending)
@@ -154,44 +156,43 @@ fn aligned_keys(keys: &[u8], prefix: usize, ending: Ending) -> usize
 }
 
 // How many keys are aligned with a text, stripped and behind khin.
-fn align_stripped(keys: &[u8], s: &[u8], ending: Ending) -> usize
-    requires { (all_ascii keys.now ≡ true) × (length s.now ≤ 640) }
-    ensures { (u : List ℕ) → s.now ≡ encode u → result ≡ aligned_with keys.now (nearest_of keys.now (candidates_of ending.tone ending.khin u)) }
+fn align_stripped(keys: Keys, s: &[u8], ending: Ending) -> usize
+    requires { length s.now ≤ 640 }
+    ensures { (u : List ℕ) → s.now ≡ encode u → result ≡ aligned_with keys.entry.bytes.now (nearest_of keys.entry.bytes.now (candidates_of ending.tone ending.khin u)) }
 {
     let prefix = nearest_prefix(keys, s, ending);
-    aligned_keys(keys, prefix, ending)
+    aligned_keys(keys.bytes, prefix, ending)
 }
 
 // The record of the keys, checked already, that are aligned with a target that is not empty, with N bytes for the stripped target: at most five for
 // each two of the target.
 fn align_within<const N: usize>(
-    keys: &[u8],
+    keys: Keys,
     target: &[u8],
     out: &mut [u8],
 ) -> Result<Record, Refusal>
-    requires { (all_ascii keys.now ≡ true) × (0 < length target.now) × (5 * length target.now ≤ 2 * N) × (N ≤ 640) }
-    ensures { record_reply result out.new ≡ align_of unicode16 (good keys.now) (check_text unicode16 target.now) out.old }
+    requires { (0 < length target.now) × (5 * length target.now ≤ 2 * N) × (N ≤ 640) }
+    ensures { record_reply result out.new ≡ align_of unicode16 (good keys.entry.bytes.now) (check_text unicode16 target.now) out.old }
 {
     let mut buffer = [0u8; N];
     let buffer = &mut buffer[..];
     let result = strip::strip_tone_diacritic(target, buffer)?;
-    let stripped = &buffer[0..result.len.0];
+    let stripped = &buffer[..result.len.0];
     let ending = Ending {
         tone: result.tone,
         khin: khin::khin_of(stripped),
     };
     let count = align_stripped(keys, khin::strip_khin(stripped), ending);
-    place_keys(&keys[0..count], out)
+    place_keys(&keys.bytes[..count], out)
 }
 
 // The record of the keys, checked already, that are aligned with a target. With the empty target, whose one candidate is the default, that is none. Of a
 // short one clearing a small buffer is quicker.
-fn align(keys: &[u8], target: &[u8], out: &mut [u8]) -> Result<Record, Refusal>
-    requires { all_ascii keys.now ≡ true }
-    ensures { record_reply result out.new ≡ align_of unicode16 (good keys.now) (check_text unicode16 target.now) out.old }
+fn align(keys: Keys, target: &[u8], out: &mut [u8]) -> Result<Record, Refusal>
+    ensures { record_reply result out.new ≡ align_of unicode16 (good keys.entry.bytes.now) (check_text unicode16 target.now) out.old }
 {
     if target.is_empty() {
-        place_keys(&keys[0..0], out)
+        place_keys(&[], out)
     } else if target.len() <= 16 {
         align_within::<40>(keys, target, out)
     } else if target.len() <= 256 {
@@ -209,11 +210,6 @@ pub fn from_conversion_alignment(
 ) -> Result<Record, Refusal>
     ensures { record_reply result out.new ≡ align_call unicode16 keys.now target.now out.old }
 {
-    if 256 < keys.len() {
-        Err(Refusal::TooLong)
-    } else if unicode::is_ascii(keys) {
-        align(keys, target, out)
-    } else {
-        Err(Refusal::OutsideTable)
-    }
+    let keys = Keys::of(keys)?;
+    align(keys, target, out)
 }

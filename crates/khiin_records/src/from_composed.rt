@@ -2,7 +2,7 @@
 ghost use Rattle.std.specs.Prelude.{◌≡◌, true, ◌&&◌, List, [], ◌∷◌, ℕ, ◌+◌, ◌*◌, ◌≤◌, ◌<◌, length, drop};
 ghost use Rattle.ji.specs.Unicode.{unicode16, members};
 ghost use Rattle.ji.specs.Utf8.{encode};
-ghost use Rattle.ji.specs.Text.{begins};
+ghost use Rattle.ji.specs.Text.{begins, replace_all};
 ghost use Rattle.ji.specs.Written.{Written};
 ghost use Rattle.ji.specs.Lomaji.Dot.{dot_in};
 ghost use Rattle.ji.specs.Lomaji.Keys.{respell};
@@ -20,28 +20,42 @@ use ji::tone::Tone;
 use ji::unicode::ByteLen;
 use ji::{reply, unicode};
 
-// Writes u, U, o and O with U+0324 as eu, Eu, eo and Eo. Letters by number: 45 E, 4F O, 55 U, 65 e, 6F o, 75 u. Few texts hold U+0324.
+// Writes a letter with U+0324 as the two letters that stand for it.
+fn spell_letter(s: &mut [u16], letter: u8)
+    ensures { s.new ≡ replace_all (letter ∷ 0x324 ∷ []) (first_of letter ∷ second_of letter ∷ []) s.old }
+{
+    replace_pair(
+        s,
+        u16::from(letter),
+        0x324,
+        u16::from(first_of(letter)),
+        u16::from(second_of(letter)),
+    );
+}
+
+// Writes u, U, o and O with U+0324 as eu, Eu, eo and Eo. Few texts hold U+0324. Four calls as there are four rules: a loop would need an invariant
+// over the rules done.
 fn spell_below(s: &mut [u16])
     ensures { s.new ≡ respell below_rules s.old }
 {
     if s.contains(&0x324) {
-        replace_pair(s, 0x75, 0x324, 0x65, 0x75);
-        replace_pair(s, 0x55, 0x324, 0x45, 0x75);
-        replace_pair(s, 0x6F, 0x324, 0x65, 0x6F);
-        replace_pair(s, 0x4F, 0x324, 0x45, 0x6F);
+        spell_letter(s, b'u');
+        spell_letter(s, b'U');
+        spell_letter(s, b'o');
+        spell_letter(s, b'O');
     }
 }
 
 // Writes `s` with `vowel` for U+0358 and nn for U+207F to the front of `out`, and returns its length.
-fn spell_signs(s: &[u16], vowel: u16, out: &mut [u16]) -> usize
-    requires { (vowel < 0x80) × (2 * length s.now ≤ length out.old) }
+fn spell_signs(s: &[u16], vowel: u8, out: &mut [u16]) -> usize
+    requires { 2 * length s.now ≤ length out.old }
     ensures { Written out.old out.new result (respell (sign_rules (vowel ∷ [])) s.now) }
 {
     let mut n: usize = 0;
     for &c in s {
         match c {
             0x358 => {
-                out[n] = vowel;
+                out[n] = u16::from(vowel);
                 n += 1;
             }
             0x207F => {
@@ -60,8 +74,8 @@ fn spell_signs(s: &[u16], vowel: u16, out: &mut [u16]) -> usize
 
 // Writes the raw input of the candidate of `s`, stripped and behind khin, that has `vowel` for U+0358, to the front of `letters`, and returns its
 // length. `s` is used up.
-fn write_raw(s: &mut [u16], vowel: u16, ending: Ending, letters: &mut [u16]) -> usize
-    requires { (vowel < 0x80) × (2 * length s.old + 2 ≤ length letters.old) }
+fn write_raw(s: &mut [u16], vowel: u8, ending: Ending, letters: &mut [u16]) -> usize
+    requires { 2 * length s.old + 2 ≤ length letters.old }
     ensures { Written letters.old letters.new result (raw (candidate ending.tone ending.khin s.old (vowel ∷ []))) }
 {
     spell_below(s);
@@ -73,16 +87,16 @@ fn write_raw(s: &mut [u16], vowel: u16, ending: Ending, letters: &mut [u16]) -> 
 fn place_candidate(
     s: &mut [u16],
     letters: &mut [u16],
-    vowel: u16,
+    vowel: u8,
     ending: Ending,
     count: u64,
     out: &mut [u8],
 ) -> Result<Record, Refusal>
-    requires { (vowel < 0x80) × (2 * length s.old + 2 ≤ length letters.old) }
+    requires { 2 * length s.old + 2 ≤ length letters.old }
     ensures { record_reply result out.new ≡ placed_record count (candidate ending.tone ending.khin s.old (vowel ∷ [])) out.old }
 {
     let n = write_raw(s, vowel, ending, letters);
-    let len = reply::place(&letters[0..n], out)?;
+    let len = reply::place(&letters[..n], out)?;
     let size = len.0;
     Ok(ending.record(size - ending.len(), size, count))
 }
@@ -101,8 +115,8 @@ fn choose(
     let dotted = s.contains(&0x358);
     let count = if dotted { 2 } else { 1 };
     match position {
-        0 => place_candidate(s, letters, 0x75, ending, count, out),
-        1 if dotted => place_candidate(s, letters, 0x6F, ending, count, out),
+        0 => place_candidate(s, letters, b'u', ending, count, out),
+        1 if dotted => place_candidate(s, letters, b'o', ending, count, out),
         _ => Err(Refusal::Position),
     }
 }
@@ -121,7 +135,7 @@ fn candidate_of(
         → record_reply result out.new ≡ candidate_in (candidates_of ending.tone ending.khin u) position out.old }
 {
     let len = unicode::code_points(s, points)?;
-    choose(&mut points[0..len.0], letters, ending, position, out)
+    choose(&mut points[..len.0], letters, ending, position, out)
 }
 
 // The same with buffers for any text. They stand here and not in the callers, so that the quick way does not make room for them.
@@ -147,18 +161,19 @@ fn default_at(position: u64, out: &mut [u8]) -> Result<Record, Refusal>
     ensures { record_reply result out.new ≡ candidate_in (default ∷ []) position out.old }
 {
     if position == 0 {
-        return Ok(Record {
+        Ok(Record {
             len: ByteLen(0),
             count: 1,
             body: ByteLen(0),
             tone: Tone::None,
             khin: Khin::No,
-        });
+        })
+    } else {
+        Err(Refusal::Position)
     }
-    Err(Refusal::Position)
 }
 
-// Whether the bytes `a` and `b` stand at `at`.
+// Whether the bytes `a` and `b` stand at `at`. It is asked of each byte of a text: `starts_with` would make a slice first.
 fn is_pair(s: &[u8], at: usize, a: u8, b: u8) -> bool
     requires { at < length s.now }
     ensures { result ≡ begins (a ∷ b ∷ []) (drop at s.now) }
@@ -221,7 +236,8 @@ pub(crate) struct Spelled {
     pub(crate) count: u8,
 }
 
-// Copies the ASCII bytes that `s` begins with, and returns their number. Most texts have no other.
+// Copies the ASCII bytes that `s` begins with, and returns their number. Most texts have no other. khiin has its like, which asks whether each byte is a
+// letter as well.
 fn copy_ascii(s: &[u8], out: &mut [u8]) -> usize
     requires { length s.now ≤ length out.old }
     ensures { (vowel : ℕ) → Walking vowel s.now out.old out.new result result 1 }
@@ -252,8 +268,8 @@ fn spell_rest(s: &[u8], start: usize, vowel: u8, out: &mut [u8]) -> Spelled
             i += 2;
             count = 2;
         } else if is_nasal(s, i) {
-            out[n] = 0x6E;
-            out[n + 1] = 0x6E;
+            out[n] = b'n';
+            out[n + 1] = b'n';
             n += 2;
             i += 3;
         } else if is_below(s, i) {
@@ -355,7 +371,7 @@ fn candidate_within<const N: usize>(
     let mut buffer = [0u8; N];
     let buffer = &mut buffer[..];
     let result = strip::strip_tone_diacritic(text, buffer)?;
-    let stripped = &buffer[0..result.len.0];
+    let stripped = &buffer[..result.len.0];
     let ending = Ending {
         tone: result.tone,
         khin: khin::khin_of(stripped),

@@ -5,11 +5,11 @@ ghost use Rattle.khiin_records.specs.Syllable.{key_tone, from_raw, placed_record
 ghost use Rattle.khiin_records.specs.Records.{RecordOf};
 
 use crate::Record;
+use crate::keys::Keys;
 use ji::lomaji::khin::Khin;
-use ji::reply::Refusal;
+use ji::reply::{self, Refusal};
 use ji::tone::Tone;
 use ji::unicode::ByteLen;
-use ji::{reply, unicode};
 
 // The tone that a key is, None of any key but 1 to 9.
 #[tactic(auto, unfolding(crate::specs::Syllable::key_tone))]
@@ -68,12 +68,6 @@ pub(crate) fn place_keys(keys: &[u8], out: &mut [u8]) -> Result<Record, Refusal>
 pub fn from_raw(keys: &[u8], out: &mut [u8]) -> Result<Record, Refusal>
     ensures { record_reply result out.new ≡ from_raw_call keys.now out.old }
 {
-    if 256 < keys.len() {
-        return Err(Refusal::TooLong);
-    }
-    if unicode::is_ascii(keys) {
-        place_keys(keys, out)
-    } else {
-        Err(Refusal::OutsideTable)
-    }
+    let keys = Keys::of(keys)?;
+    place_keys(keys.bytes, out)
 }

@@ -5,6 +5,7 @@ pub mod alignment;
 mod ending;
 pub mod from_composed;
 pub mod from_raw;
+mod keys;
 
 use ji::lomaji::khin::Khin;
 use ji::tone::Tone;

@@ -1,8 +1,8 @@
 use Rattle.std.proofs.lemmas.Result.{err_from_is_err_and}
-use mathlib.Core.Path.{ap₂, ◌∙◌}
-use Prim.Native.Nat.{ℕ, ◌-◌}
-use native.Mathlib.Nat.{sub-zero}
+use mathlib.Core.Path.{sym, ap₂, ◌∙◌}
+use Prim.Native.Nat.{ℕ}
 use lib.ListN.{replicate, length-replicate}
+use Rattle.std.proofs.lemmas.List.{length-take-le}
 use native.Mathlib.Omega.{arith}
 use Rattle.ji.specs.Unicode.{unicode16}
 use Rattle.ji.specs.Lomaji.Strip.{strip}
@@ -32,7 +32,7 @@ pub align_stripped-count-requires : goal.align_stripped-count-requires
 align_stripped-count-requires g c =
     let r = c.in_ok-result.result in
     let h = strip_done c.args.target.now (replicate g.row.N 0) c.strip_tone_diacritic.new.out r c.in_ok-result.ensures in
-    (c.requires.0, omega (arith, rest_short c.args.target.now c.strip_tone_diacritic.new.out g.row.N r h c.strip_khin.result.now c.strip_khin.ensures, c.requires.3))
+    omega (arith, rest_short c.args.target.now c.strip_tone_diacritic.new.out g.row.N r h c.strip_khin.result.now c.strip_khin.ensures, c.requires.2)
 
 pub slice_bounds-place_keys-end : goal.slice_bounds-place_keys-end
 slice_bounds-place_keys-end g c =
@@ -40,17 +40,17 @@ slice_bounds-place_keys-end g c =
     let r = c.in_ok-result.result in
     let h = strip_done c.args.target.now (replicate g.row.N 0) after r c.in_ok-result.ensures in
     let u = without_khin (strip unicode16 h.points).rest in
-    omega (arith, c.align_stripped-count.ensures u (rest_is c.args.target.now after g.row.N r h c.strip_khin.result.now c.strip_khin.ensures), aligned_inside c.args.keys.now r.tone c.khin_of.result u (toned c.args.target.now after g.row.N r h))
+    sym (length-take-le c.align_stripped-count.result c.args.keys.bytes.now (omega (arith, c.align_stripped-count.ensures u (rest_is c.args.target.now after g.row.N r h c.strip_khin.result.now c.strip_khin.ensures), aligned_inside c.args.keys.bytes.now r.tone c.khin_of.result u (toned c.args.target.now after g.row.N r h))))
 
 pub returns-in_err-result : goal.returns-in_err-result
 returns-in_err-result g c =
     let p = err_from_is_err_and c.from_residual.result c.from_residual.ensures.1 in
-    rw (p.1, p.2) (align_target_refused unicode16 c.args.keys.now c.args.target.now c.args.out.now c.in_err-result.field-0.0
-    (strip_not c.args.target.now (replicate g.row.N 0) c.strip_tone_diacritic.new.out c.in_err-result.field-0.0 (omega (arith, c.requires.2, length-replicate {A = ℕ} g.row.N 0)) c.in_err-result.ensures))
+    rw (p.1, p.2) (align_target_refused unicode16 c.args.keys.bytes.now c.args.target.now c.args.out.now c.in_err-result.field-0.0
+    (strip_not c.args.target.now (replicate g.row.N 0) c.strip_tone_diacritic.new.out c.in_err-result.field-0.0 (omega (arith, c.requires.1, length-replicate {A = ℕ} g.row.N 0)) c.in_err-result.ensures))
 
 pub returns : goal.returns
 returns g c =
-    let keys = c.args.keys.now in
+    let keys = c.args.keys.bytes.now in
     let target = c.args.target.now in
     let after = c.strip_tone_diacritic.new.out in
     let r = c.in_ok-result.result in
@@ -58,9 +58,8 @@ returns g c =
     let u = h.points in
     let v = (strip unicode16 u).rest in
     let n = c.align_stripped-count in
-    c.place_keys.ensures (ascii_take (n.result - 0) keys c.requires.0)
-    ∙ align_target_good unicode16 keys target c.args.out.now (n.result - 0) u h.good
-    (sub-zero n.result
-    ∙ n.ensures (without_khin v) (rest_is target after g.row.N r h c.strip_khin.result.now c.strip_khin.ensures)
+    c.place_keys.ensures (ascii_take n.result keys c.args.keys.ascii)
+    ∙ align_target_good unicode16 keys target c.args.out.now n.result u h.good
+    (n.ensures (without_khin v) (rest_is target after g.row.N r h c.strip_khin.result.now c.strip_khin.ensures)
     ∙ ap₂ (λ (t : Tone) (k : Khin). aligned_with keys (nearest_of keys (candidates_of t k (without_khin v)))) h.tone (khin_is target after g.row.N r h c.khin_of.result c.khin_of.ensures)
-    ∙ aligned_text unicode16 keys u (some_points target u (text_passed target u h.good).written c.requires.1))
+    ∙ aligned_text unicode16 keys u (some_points target u (text_passed target u h.good).written c.requires.0))

@@ -1,8 +1,7 @@
 use mathlib.Core.Path.{ap, ◌∙◌}
 use mathlib.Core.List.{◌++◌}
 use Rattle.ji.specs.Written.{Written}
-use Rattle.ji.proofs.Writing.{written_length}
-use Rattle.ji.proofs.Readings.{front}
+use Rattle.ji.proofs.Writing.{written_length, written_take}
 use Rattle.khiin_records.specs.Endings.{keys_of}
 use Rattle.khiin_records.specs.RawBytes.{body_of}
 use Rattle.khiin_records.specs.Alignment.{shared_prefix}
@@ -24,4 +23,4 @@ slice_bounds-shared_prefix-end c = let w = whole (goal.at.slice_bounds-shared_pr
 
 pub returns : goal.returns
 returns c =
-    c.shared_prefix.ensures ∙ ap (shared_prefix c.args.keys.now) (front (whole (goal.at.returns c).After-put-len))
+    c.shared_prefix.ensures ∙ ap (shared_prefix c.args.keys.now) (written_take (whole (goal.at.returns c).After-put-len))

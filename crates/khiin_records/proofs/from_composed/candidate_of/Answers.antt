@@ -7,8 +7,7 @@ use Rattle.ji.specs.Utf8.{decode}
 use Rattle.ji.specs.Written.{Written}
 use Rattle.ji.specs.Reply.{good, check_points}
 use Rattle.ji.specs.declared.unicode.CharLen.{CharLen}
-use Rattle.ji.proofs.Writing.{written_length}
-use Rattle.ji.proofs.Readings.{front}
+use Rattle.ji.proofs.Writing.{written_length, written_take}
 use Rattle.ji.proofs.Points.{points_done, points_refused}
 use Rattle.khiin_records.specs.Syllable.{candidates_of, candidate_in}
 use Rattle.ji.proofs.unicode.Checked.{bytes_good, good_same, good_not_bad}
@@ -29,7 +28,7 @@ pub choose-requires : goal.choose-requires
 choose-requires c =
     let w = (read (goal.at.choose-requires c).After-code_points c.in_ok-len.len c.in_ok-len.was).2 in
     let p = c.requires.1 in
-    rw (front w, w.size) (omega (arith, w.fits, p))
+    rw (written_take w, w.size) (omega (arith, w.fits, p))
 
 pub returns-in_err-len : goal.returns-in_err-len
 returns-in_err-len c =
@@ -44,4 +43,4 @@ returns c =
     let h = read (goal.at.returns c).After-code_points c.in_ok-len.len c.in_ok-len.was in
     λ u m e.
     let same : h.0 ≡ u = good_same (sym h.1 ∙ bytes_good a.s.now u m e) in
-    c.choose.ensures ∙ ap (λ (v : List ℕ). candidate_in (candidates_of a.ending.tone a.ending.khin v) a.position a.out.now) (front h.2 ∙ same)
+    c.choose.ensures ∙ ap (λ (v : List ℕ). candidate_in (candidates_of a.ending.tone a.ending.khin v) a.position a.out.now) (written_take h.2 ∙ same)

@@ -6,7 +6,7 @@ use lib.ListN.{length}
 use Rattle.ji.specs.Utf8.{encode}
 use Rattle.ji.specs.Reply.{text_reply, placed}
 use Rattle.ji.specs.declared.unicode.ByteLen.{ByteLen}
-use Rattle.ji.proofs.Readings.{front}
+use Rattle.ji.proofs.Writing.{written_take}
 use Rattle.khiin_records.specs.Syllable.{Syllable, raw, candidate}
 use Rattle.khiin_records.specs.Endings.{keys_of}
 use Rattle.khiin_records.proofs.Records.{text_in, record_refused, record_done, written_size, raw_size}
@@ -24,7 +24,7 @@ module _ (c : After-place) where
   placed_raw : text_reply c.place.result c.place.new.out ≡ placed 0 (encode (raw made)) c.args.out.now
   placed_raw =
       c.place.ensures
-      ∙ ap (λ (l : List ℕ). placed 0 (encode l) c.args.out.now) (front c.write_raw-n.ensures)
+      ∙ ap (λ (l : List ℕ). placed 0 (encode l) c.args.out.now) (written_take c.write_raw-n.ensures)
 
   module _ (len : ByteLen) (is : c.place.result ≡ Ok len) where
     told : text_in len.0 c.place.new.out ≡ placed 0 (encode (raw made)) c.args.out.now

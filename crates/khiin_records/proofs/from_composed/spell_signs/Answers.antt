@@ -37,6 +37,9 @@ module _ (c : In-loop-c) where
   abbrev Goes : List ℕ → ℕ → ℕ → Type 0
   Goes out i n = Underway (replaced vowel) s c.args.out.now out i n
 
+  low : vowel < 0x100
+  low = omega arith
+
   h : Goes out i n
   h = c.loop-c.invariant
 
@@ -51,16 +54,16 @@ module _ (c : In-loop-c) where
   piece u e = ap (replaced vowel) (drop_next s i c.loop-c-test.true) ∙ e (drop (i + 1) s)
 
   vowel_piece : x ≡ 0x0358 → Piece (vowel ∷ [])
-  vowel_piece e = piece (vowel ∷ []) (λ t. sign_vowel vowel c.requires.0 x t e)
+  vowel_piece e = piece (vowel ∷ []) (λ t. sign_vowel vowel low x t e)
 
   nasal_piece : (x ≡ 0x0358 → ⊥) → x ≡ point "ⁿ" → Piece (points "nn")
-  nasal_piece f e = piece (points "nn") (λ t. sign_nasal vowel c.requires.0 x t f e)
+  nasal_piece f e = piece (points "nn") (λ t. sign_nasal vowel low x t f e)
 
   other_piece : (x ≡ 0x0358 → ⊥) → (x ≡ point "ⁿ" → ⊥) → Piece (x ∷ [])
-  other_piece f g = piece (x ∷ []) (λ t. sign_other vowel c.requires.0 x t f g)
+  other_piece f g = piece (x ∷ []) (λ t. sign_other vowel low x t f g)
 
   enough : length (replaced vowel s) ≤ length c.args.out.now
-  enough = let k = c.requires.1 in omega (arith, signs_growth vowel c.requires.0 s)
+  enough = let k = c.requires in omega (arith, signs_growth vowel low s)
 
   room : (u : List ℕ) → Piece u → n + length u ≤ length out
   room u e = rw out_length (underway_room h (i + 1) u e enough)
@@ -96,7 +99,7 @@ pub loop-c-preserved : goal.loop-c-preserved
 loop-c-preserved c =
     let at = (goal.at.loop-c-preserved c).In-loop-c in
     elim c.match-c.branch [
-      | in-856 w ↦ rw (w.out-is, w.n-is) (one at _ (vowel_piece at w.in-856.is))
+      | in-856 w ↦ rw (w.out-is, w.n-is, w.from.ensures) (one at _ (vowel_piece at w.in-856.is))
       | in-8319 w ↦ rw (w.out-is, w.n-is) (two at (nasal_piece at (λ e. omega (arith, e, w.in-8319.is)) w.in-8319.is))
       | in_default w ↦
           let no_dot : get_or c.args.s.now c.loop-c.c-index 0 ≡ 0x0358 → ⊥ = search rules in
@@ -107,4 +110,4 @@ loop-c-preserved c =
 pub returns : goal.returns
 returns c =
     let l = c.loop-c in
-    underway_end l.invariant (ap (replaced c.args.vowel) (drop_of_length-le c.args.s.now {i = l.c-index} c.loop-c-test.false) ∙ signs_end c.args.vowel c.requires.0)
+    underway_end l.invariant (ap (replaced c.args.vowel) (drop_of_length-le c.args.s.now {i = l.c-index} c.loop-c-test.false) ∙ signs_end c.args.vowel (omega arith))

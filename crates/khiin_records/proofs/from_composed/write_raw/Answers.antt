@@ -23,7 +23,7 @@ module _ (c : After-spell_signs-n) where
   few =
       let w = spelled in
       let p = c.requires in
-      omega (arith, w.size, signs_growth c.args.vowel p.0 (respell below_rules c.args.s.now), below_length c.args.s.now, p.1)
+      omega (arith, w.size, signs_growth c.args.vowel (omega arith) (respell below_rules c.args.s.now), below_length c.args.s.now, p)
 
 pub put_points-requires : goal.put_points-requires
 put_points-requires c =

@@ -1,12 +1,10 @@
+use Rattle.std.proofs.lemmas.Result.{err_from_is_err_and}
 use mathlib.Core.Path.{◌≡◌, sym, ap, ◌∙◌}
 use mathlib.Core.List.{List}
 use Prim.Native.Nat.{ℕ}
 use Rattle.ji.specs.Reply.{refused, Checked, good, bad}
 use Rattle.ji.specs.declared.reply.Refusal.{Refusal}
-use Rattle.ji.specs.declared.reply.Refusal.TheVariants.{TooLong, OutsideTable}
 use Rattle.khiin_records.specs.Syllable.{from_raw, placed_record, check_keys, from_raw_of, from_raw_call}
-use Rattle.khiin_records.proofs.Records.{keys_long, keys_outside, keys_pass}
-use native.Mathlib.Omega.{arith}
 use Rattle.khiin_records.proofs.from_raw.from_raw.Goals as goal
 
 module _ (s buffer : List ℕ) where
@@ -14,20 +12,16 @@ module _ (s buffer : List ℕ) where
   unfolding from_raw_call
   keys_refused why e = sym (ap (λ (k : Checked). from_raw_of k buffer) e)
 
-  keys_good : check_keys s ≡ good s → placed_record 0 (from_raw s) buffer ≡ from_raw_call s buffer
+  keys_good : (checked : List ℕ) → check_keys s ≡ good checked → placed_record 0 (from_raw checked) buffer ≡ from_raw_call s buffer
   unfolding from_raw_call
-  keys_good e = sym (ap (λ (k : Checked). from_raw_of k buffer) e)
+  keys_good checked e = sym (ap (λ (k : Checked). from_raw_of k buffer) e)
 
-pub returns-then-keys-gt256 : goal.returns-then-keys-gt256
-returns-then-keys-gt256 c = let a = c.args in keys_refused a.keys.now a.out.now TooLong (keys_long a.keys.now c.if-keys-gt256.true)
+pub returns-in_err-keys : goal.returns-in_err-keys
+returns-in_err-keys c =
+    let p = err_from_is_err_and c.from_residual.result c.from_residual.ensures.1 in
+    rw (p.1, p.2) (keys_refused c.args.keys.now c.args.out.now c.in_err-keys.field-0.0 (sym c.in_err-keys.ensures))
 
-pub returns-then-is_ascii : goal.returns-then-is_ascii
-returns-then-is_ascii c =
-    let a = c.args in
-    let ascii = sym c.is_ascii.ensures ∙ c.if-is_ascii.true in
-    c.place_keys.ensures ascii ∙ keys_good a.keys.now a.out.now (keys_pass a.keys.now (omega (arith, c.if-keys-gt256.false)) ascii)
-
-pub returns-else-is_ascii : goal.returns-else-is_ascii
-returns-else-is_ascii c =
-    let a = c.args in
-    keys_refused a.keys.now a.out.now OutsideTable (keys_outside a.keys.now (omega (arith, c.if-keys-gt256.false)) (sym c.is_ascii.ensures ∙ c.if-is_ascii.false))
+pub returns : goal.returns
+returns c =
+    let keys = c.in_ok-keys.keys in
+    c.place_keys.ensures keys.ascii ∙ keys_good c.args.keys.now c.args.out.now keys.bytes.now (sym c.in_ok-keys.ensures)
