@@ -3,5 +3,5 @@ pub mod Spelling
 pub mod RawBytes
 pub mod Walking
 pub mod Candidates
-pub mod Stripped
+pub mod Stripping
 pub mod Prefixes

@@ -15,9 +15,9 @@ use crate::ending::Ending;
 use crate::from_composed::{again, spell};
 use crate::from_raw::place_keys;
 use crate::keys::Keys;
+use crate::stripped::Stripped;
 use ji::lomaji::dot::holds_dot;
 use ji::lomaji::khin::Khin;
-use ji::lomaji::{khin, strip};
 use ji::reply::Refusal;
 use ji::unicode;
 
@@ -175,14 +175,8 @@ fn align_within<const N: usize>(
     ensures { record_reply result out.new ≡ align_of unicode16 (good keys.entry.bytes.now) (check_text unicode16 target.now) out.old }
 {
     let mut buffer = [0u8; N];
-    let buffer = &mut buffer[..];
-    let result = strip::strip_tone_diacritic(target, buffer)?;
-    let stripped = &buffer[..result.len.0];
-    let ending = Ending {
-        tone: result.tone,
-        khin: khin::khin_of(stripped),
-    };
-    let count = align_stripped(keys, khin::strip_khin(stripped), ending);
+    let stripped = Stripped::of(target, &mut buffer)?;
+    let count = align_stripped(keys, stripped.rest, stripped.ending);
     place_keys(&keys.bytes[..count], out)
 }
 

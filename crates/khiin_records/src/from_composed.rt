@@ -11,9 +11,9 @@ ghost use Rattle.khiin_records.specs.RawBytes.{takes_below, first_of, second_of,
 
 use crate::Record;
 use crate::ending::Ending;
+use crate::stripped::Stripped;
 use ji::lomaji::dot::holds_dot;
 use ji::lomaji::khin::Khin;
-use ji::lomaji::{khin, strip};
 use ji::reply::Refusal;
 use ji::text::replace_pair;
 use ji::tone::Tone;
@@ -369,14 +369,8 @@ fn candidate_within<const N: usize>(
     ensures { record_reply result out.new ≡ candidate_call unicode16 text.now position out.old }
 {
     let mut buffer = [0u8; N];
-    let buffer = &mut buffer[..];
-    let result = strip::strip_tone_diacritic(text, buffer)?;
-    let stripped = &buffer[..result.len.0];
-    let ending = Ending {
-        tone: result.tone,
-        khin: khin::khin_of(stripped),
-    };
-    candidate_stripped(khin::strip_khin(stripped), ending, position, out)
+    let stripped = Stripped::of(text, &mut buffer)?;
+    candidate_stripped(stripped.rest, stripped.ending, position, out)
 }
 
 // The candidate at the position, whose raw input stands in `out`, and how many there are. Of a short text clearing a small buffer is quicker.

@@ -6,6 +6,7 @@ mod ending;
 pub mod from_composed;
 pub mod from_raw;
 mod keys;
+mod stripped;
 
 use ji::lomaji::khin::Khin;
 use ji::tone::Tone;

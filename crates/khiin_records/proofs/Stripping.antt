@@ -4,7 +4,7 @@ use mathlib.Core.Bool.{true}
 use mathlib.Core.List.{List}
 use Prim.Native.Nat.{ℕ, ◌≤◌}
 use native.Mathlib.Omega.{arith}
-use lib.ListN.{length, take, replicate, length-replicate}
+use lib.ListN.{length, take}
 use Rattle.ji.specs.Unicode.{unicode16}
 use Rattle.ji.specs.Utf8.{encode}
 use Rattle.ji.specs.Tone.{is_tone}
@@ -17,8 +17,7 @@ use Rattle.ji.proofs.lomaji.khin.Laws.{after_khin_length, after_points, khin_poi
 use Rattle.ji.proofs.lomaji.strip.Answers.{Stripping}
 use Rattle.khiin_records.proofs.Candidates.{tone_some}
 
--- in a buffer of N bytes
-module _ (text after : List ℕ) (N : ℕ) (r : StripResult) (h : Stripping text (replicate N 0) after r) where
+module _ (text before after : List ℕ) (r : StripResult) (h : Stripping text before after r) where
   abbrev stripped : List ℕ
   stripped = (strip unicode16 h.points).rest
 
@@ -29,9 +28,9 @@ module _ (text after : List ℕ) (N : ℕ) (r : StripResult) (h : Stripping text
   within = sym (ap length (written_take h.written) ∙ h.written.size)
 
   module _ (rest : List ℕ) (is : rest ≡ after_khin (take r.len.0 after)) where
-    pub rest_short : length rest ≤ N
+    pub rest_short : length rest ≤ length before
     rest_short =
-        omega (arith, ap length is, after_khin_length (take r.len.0 after), ap length (written_take h.written), h.written.size, h.written.fits, length-replicate {A = ℕ} N 0)
+        omega (arith, ap length is, after_khin_length (take r.len.0 after), ap length (written_take h.written), h.written.size, h.written.fits)
 
     pub rest_is : rest ≡ encode (without_khin stripped)
     rest_is = is ∙ ap after_khin (written_take h.written) ∙ after_points stripped
