@@ -38,17 +38,18 @@ fn shared_prefix(keys: &[u8], s: &[u8]) -> usize
         .count()
 }
 
-// How many keys are shared with the candidate of `s`, stripped and behind khin, that has `vowel` for U+0358. `letters` is used up.
-fn candidate_prefix(keys: &[u8], s: &[u8], vowel: u8, ending: Ending, letters: &mut [u8]) -> usize
-    requires { length s.now + 2 ≤ length letters.old }
-    ensures { result ≡ shared_prefix keys.now ((body_of vowel s.now).text ++ keys_of ending) }
+// How many keys are shared with the candidate of a stripped text that has `vowel` for U+0358. `letters` is used up.
+fn candidate_prefix(keys: &[u8], text: Stripped, vowel: u8, letters: &mut [u8]) -> usize
+    requires { length text.rest.now + 2 ≤ length letters.old }
+    ensures { result ≡ shared_prefix keys.now ((body_of vowel text.entry.rest.now).text ++ keys_of text.entry.ending) }
 {
-    let spelled = spell(s, vowel, letters);
-    let len = ending.put(letters, spelled.len);
+    let spelled = spell(text.rest, vowel, letters);
+    let len = text.ending.put(letters, spelled.len);
     shared_prefix(keys, &letters[..len])
 }
 
-// Whether the later of two candidates is taken, by how many keys are shared with each: of two that share as many it is the later.
+// Whether the later of two candidates is taken, by how many keys are shared with each: of two that share as many it is the later. `max` would not say
+// which of the two it is.
 fn takes_later(earlier: usize, later: usize) -> bool
     ensures { result ≡ leb earlier later }
 {
@@ -56,27 +57,30 @@ fn takes_later(earlier: usize, later: usize) -> bool
 }
 
 // How many keys are shared with the candidate that shares most: the one with u or, where U+0358 occurs, the one with o. `letters` is used up.
-fn spelled_prefix(keys: Keys, s: &[u8], ending: Ending, letters: &mut [u8]) -> usize
-    requires { length s.now + 2 ≤ length letters.old }
-    ensures { NearestPrefix keys.entry.bytes.now s.now ending result }
+fn spelled_prefix(keys: Keys, text: Stripped, letters: &mut [u8]) -> usize
+    requires { length text.rest.now + 2 ≤ length letters.old }
+    ensures { NearestPrefix keys.entry.bytes.now text.entry.rest.now text.entry.ending result }
 {
-    let earlier = candidate_prefix(keys.bytes, s, b'u', ending, letters);
-    if holds_dot(s) {
-        let later = candidate_prefix(keys.bytes, s, b'o', ending, letters);
+    let earlier = candidate_prefix(keys.bytes, text, b'u', letters);
+    if holds_dot(text.rest) {
+        let later = candidate_prefix(keys.bytes, text, b'o', letters);
         if takes_later(earlier, later) {
-            return later;
+            later
+        } else {
+            earlier
         }
+    } else {
+        earlier
     }
-    earlier
 }
 
 // The same with N bytes for the candidates.
-fn spelled_within<const N: usize>(keys: Keys, s: &[u8], ending: Ending) -> usize
-    requires { (length s.now + 2 ≤ N) × (N ≤ 642) }
-    ensures { NearestPrefix keys.entry.bytes.now s.now ending result }
+fn spelled_within<const N: usize>(keys: Keys, text: Stripped) -> usize
+    requires { (length text.rest.now + 2 ≤ N) × (N ≤ 642) }
+    ensures { NearestPrefix keys.entry.bytes.now text.entry.rest.now text.entry.ending result }
 {
     let mut letters = [0u8; N];
-    spelled_prefix(keys, s, ending, &mut letters)
+    spelled_prefix(keys, text, &mut letters)
 }
 
 // Whether the key at `at` is the byte `x` of a raw input: whether the prefix goes on there.
@@ -109,29 +113,29 @@ fn digits_prefix(keys: &[u8], at: usize, ending: Ending) -> usize
 }
 
 // The same of an ASCII text, which is the body of its one candidate: nothing is spelled, and nothing copied.
-fn plain_prefix(keys: Keys, s: &[u8], ending: Ending) -> usize
-    requires { all_ascii s.now ≡ true }
-    ensures { NearestPrefix keys.entry.bytes.now s.now ending result }
+fn plain_prefix(keys: Keys, text: Stripped) -> usize
+    requires { all_ascii text.rest.now ≡ true }
+    ensures { NearestPrefix keys.entry.bytes.now text.entry.rest.now text.entry.ending result }
 {
-    let body = shared_prefix(keys.bytes, s);
-    if body < s.len() {
+    let body = shared_prefix(keys.bytes, text.rest);
+    if body < text.rest.len() {
         body
     } else {
-        body + digits_prefix(keys.bytes, body, ending)
+        body + digits_prefix(keys.bytes, body, text.ending)
     }
 }
 
 // The same of any text. Of a short one clearing a small buffer is quicker.
-fn nearest_prefix(keys: Keys, s: &[u8], ending: Ending) -> usize
-    requires { length s.now ≤ 640 }
-    ensures { NearestPrefix keys.entry.bytes.now s.now ending result }
+fn nearest_prefix(keys: Keys, text: Stripped) -> usize
+    requires { length text.rest.now ≤ 640 }
+    ensures { NearestPrefix keys.entry.bytes.now text.entry.rest.now text.entry.ending result }
 {
-    if unicode::is_ascii(s) {
-        plain_prefix(keys, s, ending)
-    } else if s.len() <= 40 {
-        spelled_within::<42>(keys, s, ending)
+    if unicode::is_ascii(text.rest) {
+        plain_prefix(keys, text)
+    } else if text.rest.len() <= 40 {
+        spelled_within::<42>(keys, text)
     } else {
-        spelled_within::<642>(keys, s, ending)
+        spelled_within::<642>(keys, text)
     }
 }
 
@@ -155,16 +159,16 @@ fn aligned_keys(keys: &[u8], prefix: usize, ending: Ending) -> usize
     }
 }
 
-// How many keys are aligned with a text, stripped and behind khin.
-fn align_stripped(keys: Keys, s: &[u8], ending: Ending) -> usize
-    requires { length s.now ≤ 640 }
-    ensures { (u : List ℕ) → s.now ≡ encode u → result ≡ aligned_with keys.entry.bytes.now (nearest_of keys.entry.bytes.now (candidates_of ending.tone ending.khin u)) }
+// How many keys are aligned with a stripped text.
+fn align_stripped(keys: Keys, text: Stripped) -> usize
+    requires { length text.rest.now ≤ 640 }
+    ensures { (u : List ℕ) → text.entry.rest.now ≡ encode u → result ≡ aligned_with keys.entry.bytes.now (nearest_of keys.entry.bytes.now (candidates_of text.entry.ending.tone text.entry.ending.khin u)) }
 {
-    let prefix = nearest_prefix(keys, s, ending);
-    aligned_keys(keys.bytes, prefix, ending)
+    let prefix = nearest_prefix(keys, text);
+    aligned_keys(keys.bytes, prefix, text.ending)
 }
 
-// The record of the keys, checked already, that are aligned with a target that is not empty, with N bytes for the stripped target: at most five for
+// The record of the keys that are aligned with a target that is not empty, with N bytes for the stripped target: at most five for
 // each two of the target.
 fn align_within<const N: usize>(
     keys: Keys,
@@ -176,12 +180,12 @@ fn align_within<const N: usize>(
 {
     let mut buffer = [0u8; N];
     let stripped = Stripped::of(target, &mut buffer)?;
-    let count = align_stripped(keys, stripped.rest, stripped.ending);
+    let count = align_stripped(keys, stripped);
     place_keys(&keys.bytes[..count], out)
 }
 
-// The record of the keys, checked already, that are aligned with a target. With the empty target, whose one candidate is the default, that is none. Of a
-// short one clearing a small buffer is quicker.
+// The record of the keys that are aligned with a target. With the empty target, whose one candidate is the default, that is none. Of a short one clearing
+// a small buffer is quicker. from_composed has the same sizes: a function for both would take a closure for each and be longer.
 fn align(keys: Keys, target: &[u8], out: &mut [u8]) -> Result<Record, Refusal>
     ensures { record_reply result out.new ≡ align_of unicode16 (good keys.entry.bytes.now) (check_text unicode16 target.now) out.old }
 {

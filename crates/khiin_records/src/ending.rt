@@ -58,7 +58,7 @@ impl Ending {
         match self.khin {
             Khin::No => at + 1,
             Khin::Yes => {
-                out[at + 1] = 0x30;
+                out[at + 1] = u16::from(b'0');
                 at + 2
             }
         }

@@ -59,8 +59,8 @@ fn spell_signs(s: &[u16], vowel: u8, out: &mut [u16]) -> usize
                 n += 1;
             }
             0x207F => {
-                out[n] = 0x6E;
-                out[n + 1] = 0x6E;
+                out[n] = u16::from(b'n');
+                out[n + 1] = u16::from(b'n');
                 n += 2;
             }
             _ => {
@@ -73,7 +73,8 @@ fn spell_signs(s: &[u16], vowel: u8, out: &mut [u16]) -> usize
 }
 
 // Writes the raw input of the candidate of `s`, stripped and behind khin, that has `vowel` for U+0358, to the front of `letters`, and returns its
-// length. `s` is used up.
+// length. `s` is used up. `letters` has room for two letters for each code point, and for the ending: three contracts say so, since a struct of the two
+// buffers would be made once only, in `candidate_of`, and be longer.
 fn write_raw(s: &mut [u16], vowel: u8, ending: Ending, letters: &mut [u16]) -> usize
     requires { 2 * length s.old + 2 ≤ length letters.old }
     ensures { Written letters.old letters.new result (raw (candidate ending.tone ending.khin s.old (vowel ∷ []))) }
@@ -121,38 +122,32 @@ fn choose(
     }
 }
 
-// The plain way, for any buffer: the candidate at the position of a text, stripped and behind khin, by its code points.
+// The plain way, for any buffer: the candidate at the position of a stripped text, by its code points.
 fn candidate_of(
-    s: &[u8],
+    text: Stripped,
     points: &mut [u16],
     letters: &mut [u16],
-    ending: Ending,
     position: u64,
     out: &mut [u8],
 ) -> Result<Record, Refusal>
-    requires { (length s.now ≤ length points.old) × (2 * length points.old + 2 ≤ length letters.old) }
-    ensures { (u : List ℕ) → members unicode16 u ≡ true → s.now ≡ encode u
-        → record_reply result out.new ≡ candidate_in (candidates_of ending.tone ending.khin u) position out.old }
+    requires { (length text.rest.now ≤ length points.old) × (2 * length points.old + 2 ≤ length letters.old) }
+    ensures { (u : List ℕ) → members unicode16 u ≡ true → text.entry.rest.now ≡ encode u
+        → record_reply result out.new ≡ candidate_in (candidates_of text.entry.ending.tone text.entry.ending.khin u) position out.old }
 {
-    let len = unicode::code_points(s, points)?;
-    choose(&mut points[..len.0], letters, ending, position, out)
+    let len = unicode::code_points(text.rest, points)?;
+    choose(&mut points[..len.0], letters, text.ending, position, out)
 }
 
 // The same with buffers for any text. They stand here and not in the callers, so that the quick way does not make room for them.
 #[inline(never)]
-fn candidate_points(
-    s: &[u8],
-    ending: Ending,
-    position: u64,
-    out: &mut [u8],
-) -> Result<Record, Refusal>
-    requires { length s.now ≤ 640 }
-    ensures { (u : List ℕ) → members unicode16 u ≡ true → s.now ≡ encode u
-        → record_reply result out.new ≡ candidate_in (candidates_of ending.tone ending.khin u) position out.old }
+fn candidate_points(text: Stripped, position: u64, out: &mut [u8]) -> Result<Record, Refusal>
+    requires { length text.rest.now ≤ 640 }
+    ensures { (u : List ℕ) → members unicode16 u ≡ true → text.entry.rest.now ≡ encode u
+        → record_reply result out.new ≡ candidate_in (candidates_of text.entry.ending.tone text.entry.ending.khin u) position out.old }
 {
     let mut points = [0u16; 640];
     let mut letters = [0u16; 1282];
-    candidate_of(s, &mut points, &mut letters, ending, position, out)
+    candidate_of(text, &mut points, &mut letters, position, out)
 }
 
 // The one candidate of the empty text: the default.
@@ -236,8 +231,7 @@ pub(crate) struct Spelled {
     pub(crate) count: u8,
 }
 
-// Copies the ASCII bytes that `s` begins with, and returns their number. Most texts have no other. khiin has its like, which asks whether each byte is a
-// letter as well.
+// Copies the ASCII bytes that `s` begins with, and returns their number. Most texts have no other. khiin's copies a whole text or nothing.
 fn copy_ascii(s: &[u8], out: &mut [u8]) -> usize
     requires { length s.now ≤ length out.old }
     ensures { (vowel : ℕ) → Walking vowel s.now out.old out.new result result 1 }
@@ -308,22 +302,20 @@ fn vowel_at(s: &[u8], position: u64) -> Option<u8>
     }
 }
 
-// The quick way, for a buffer with room to spare: the candidate at the position of a text, stripped and behind khin, by one walk over its bytes. One
+// The quick way, for a buffer with room to spare: the candidate at the position of a stripped text, by one walk over its bytes. One
 // `match` with both answers: two returns would send the record through memory.
-fn write_candidate(
-    s: &[u8],
-    ending: Ending,
-    position: u64,
-    out: &mut [u8],
-) -> Result<Record, Refusal>
-    requires { length s.now + 2 ≤ length out.old }
-    ensures { (u : List ℕ) → s.now ≡ encode u → record_reply result out.new ≡ candidate_in (candidates_of ending.tone ending.khin u) position out.old }
+fn write_candidate(text: Stripped, position: u64, out: &mut [u8]) -> Result<Record, Refusal>
+    requires { length text.rest.now + 2 ≤ length out.old }
+    ensures { (u : List ℕ) → text.entry.rest.now ≡ encode u → record_reply result out.new ≡ candidate_in (candidates_of text.entry.ending.tone text.entry.ending.khin u) position out.old }
 {
-    match vowel_at(s, position) {
+    match vowel_at(text.rest, position) {
         Some(vowel) => {
-            let spelled = spell(s, vowel, out);
-            let len = ending.put(out, spelled.len);
-            Ok(ending.record(spelled.len, len, u64::from(spelled.count)))
+            let spelled = spell(text.rest, vowel, out);
+            let len = text.ending.put(out, spelled.len);
+            Ok(
+                text.ending
+                    .record(spelled.len, len, u64::from(spelled.count)),
+            )
         }
         None => Err(Refusal::Position),
     }
@@ -339,23 +331,18 @@ pub(crate) fn again(answer: Result<Record, Refusal>) -> Result<Record, Refusal>
     }
 }
 
-// The candidate at the position of a text, stripped and behind khin: by the quick way where its raw input has room in any case, else by the plain one.
+// The candidate at the position of a stripped text: by the quick way where its raw input has room in any case, else by the plain one.
 // Written into its callers, so that the record of a short text need not go through memory.
 #[inline(always)]
-fn candidate_stripped(
-    s: &[u8],
-    ending: Ending,
-    position: u64,
-    out: &mut [u8],
-) -> Result<Record, Refusal>
-    requires { length s.now ≤ 640 }
-    ensures { (u : List ℕ) → members unicode16 u ≡ true → s.now ≡ encode u
-        → record_reply result out.new ≡ candidate_in (candidates_of ending.tone ending.khin u) position out.old }
+fn candidate_stripped(text: Stripped, position: u64, out: &mut [u8]) -> Result<Record, Refusal>
+    requires { length text.rest.now ≤ 640 }
+    ensures { (u : List ℕ) → members unicode16 u ≡ true → text.entry.rest.now ≡ encode u
+        → record_reply result out.new ≡ candidate_in (candidates_of text.entry.ending.tone text.entry.ending.khin u) position out.old }
 {
-    if s.len() + 2 <= out.len() {
-        write_candidate(s, ending, position, out)
+    if text.rest.len() + 2 <= out.len() {
+        write_candidate(text, position, out)
     } else {
-        again(candidate_points(s, ending, position, out))
+        again(candidate_points(text, position, out))
     }
 }
 
@@ -370,7 +357,7 @@ fn candidate_within<const N: usize>(
 {
     let mut buffer = [0u8; N];
     let stripped = Stripped::of(text, &mut buffer)?;
-    candidate_stripped(stripped.rest, stripped.ending, position, out)
+    candidate_stripped(stripped, position, out)
 }
 
 // The candidate at the position, whose raw input stands in `out`, and how many there are. Of a short text clearing a small buffer is quicker.

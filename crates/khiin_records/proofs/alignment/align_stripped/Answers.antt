@@ -10,4 +10,4 @@ pub returns : goal.returns
 returns c =
     let a = c.args in
     λ u e.
-    c.aligned_keys.ensures (nearest_of a.keys.bytes.now (candidates_of a.ending.tone a.ending.khin u)) (nearest_tone a.keys.bytes.now a.ending.tone a.ending.khin u) (c.nearest_prefix-prefix.ensures.shared u e)
+    c.aligned_keys.ensures (nearest_of a.keys.bytes.now (candidates_of a.text.ending.tone a.text.ending.khin u)) (nearest_tone a.keys.bytes.now a.text.ending.tone a.text.ending.khin u) (c.nearest_prefix-prefix.ensures.shared u e)

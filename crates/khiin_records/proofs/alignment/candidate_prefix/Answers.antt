@@ -12,10 +12,10 @@ use Rattle.khiin_records.proofs.alignment.candidate_prefix.Goals.{After-put-len}
 
 -- the raw input was written
 module _ (c : After-put-len) where
-  whole : Written c.args.letters.now c.put-len.new.out c.put-len.result ((body_of c.args.vowel c.args.s.now).text ++ keys_of c.args.ending)
+  whole : Written c.args.letters.now c.put-len.new.out c.put-len.result ((body_of c.args.vowel c.args.text.rest.now).text ++ keys_of c.args.text.ending)
   whole =
       let w = c.spell-spelled in
-      raw_written c.args.ending.tone c.args.ending.khin c.args.letters.now w.new.out c.put-len.new.out w.result.len c.put-len.result _
+      raw_written c.args.text.ending.tone c.args.text.ending.khin c.args.letters.now w.new.out c.put-len.new.out w.result.len c.put-len.result _
       w.ensures.0 c.put-len.ensures.0 c.put-len.ensures.1 (omega (arith, w.ensures.1, c.requires))
 
 pub slice_bounds-shared_prefix-end : goal.slice_bounds-shared_prefix-end

@@ -10,7 +10,7 @@ returns-then-takes_later c =
     record {
       inside = rw later.ensures (prefix_fits _ _);
       shared = λ u e.
-          nearest_of_two c.args.keys.bytes.now c.args.ending.tone c.args.ending.khin u c.args.s.now e c.args.keys.ascii earlier.result later.result earlier.ensures later.ensures
+          nearest_of_two c.args.keys.bytes.now c.args.text.ending.tone c.args.text.ending.khin u c.args.text.rest.now e c.args.keys.ascii earlier.result later.result earlier.ensures later.ensures
           (sym c.holds_dot.ensures ∙ c.if-holds_dot.true) true (sym c.takes_later.ensures ∙ c.if-takes_later.true);
     }
 
@@ -21,7 +21,7 @@ returns-else-takes_later c =
     record {
       inside = rw earlier.ensures (prefix_fits _ _);
       shared = λ u e.
-          nearest_of_two c.args.keys.bytes.now c.args.ending.tone c.args.ending.khin u c.args.s.now e c.args.keys.ascii earlier.result later.result earlier.ensures later.ensures
+          nearest_of_two c.args.keys.bytes.now c.args.text.ending.tone c.args.text.ending.khin u c.args.text.rest.now e c.args.keys.ascii earlier.result later.result earlier.ensures later.ensures
           (sym c.holds_dot.ensures ∙ c.if-holds_dot.true) false (sym c.takes_later.ensures ∙ c.if-takes_later.false);
     }
 
@@ -31,5 +31,5 @@ returns-else-holds_dot c =
     record {
       inside = rw earlier.ensures (prefix_fits _ _);
       shared = λ u e.
-          nearest_alone c.args.keys.bytes.now c.args.ending.tone c.args.ending.khin u c.args.s.now e c.args.keys.ascii earlier.result earlier.ensures (sym c.holds_dot.ensures ∙ c.if-holds_dot.false);
+          nearest_alone c.args.keys.bytes.now c.args.text.ending.tone c.args.text.ending.khin u c.args.text.rest.now e c.args.keys.ascii earlier.result earlier.ensures (sym c.holds_dot.ensures ∙ c.if-holds_dot.false);
     }

@@ -18,8 +18,8 @@ use Rattle.std.specs.Prelude.{Ok}
 
 -- the text was read
 module _ (c : After-code_points) where
-  read : (len : CharLen) → c.code_points.result ≡ Ok len → (w : List ℕ) × (check_points unicode16 (decode c.args.s.now) ≡ good w) × Written c.args.points.now c.code_points.new.out len.0 w
-  read len is = points_done c.args.s.now c.args.points.now c.code_points.new.out c.requires.0 c.code_points.ensures len is
+  read : (len : CharLen) → c.code_points.result ≡ Ok len → (w : List ℕ) × (check_points unicode16 (decode c.args.text.rest.now) ≡ good w) × Written c.args.points.now c.code_points.new.out len.0 w
+  read len is = points_done c.args.text.rest.now c.args.points.now c.code_points.new.out c.requires.0 c.code_points.ensures len is
 
 pub slice_bounds-choose-end : goal.slice_bounds-choose-end
 slice_bounds-choose-end c = let w = (read (goal.at.slice_bounds-choose-end c).After-code_points c.in_ok-len.len c.in_ok-len.was).2 in omega (arith, w.fits, written_length w)
@@ -35,12 +35,12 @@ returns-in_err-len c =
     let p = err_from_is_err_and c.from_residual.result c.from_residual.ensures.1 in
     rw (p.1, p.2)
     (λ u m e.
-    absurd (good_not_bad (sym (bytes_good c.args.s.now u m e) ∙ points_refused c.args.s.now c.args.points.now c.code_points.new.out c.requires.0 c.code_points.ensures c.in_err-len.field-0.0 c.in_err-len.was)))
+    absurd (good_not_bad (sym (bytes_good c.args.text.rest.now u m e) ∙ points_refused c.args.text.rest.now c.args.points.now c.code_points.new.out c.requires.0 c.code_points.ensures c.in_err-len.field-0.0 c.in_err-len.was)))
 
 pub returns : goal.returns
 returns c =
     let a = c.args in
     let h = read (goal.at.returns c).After-code_points c.in_ok-len.len c.in_ok-len.was in
     λ u m e.
-    let same : h.0 ≡ u = good_same (sym h.1 ∙ bytes_good a.s.now u m e) in
-    c.choose.ensures ∙ ap (λ (v : List ℕ). candidate_in (candidates_of a.ending.tone a.ending.khin v) a.position a.out.now) (written_take h.2 ∙ same)
+    let same : h.0 ≡ u = good_same (sym h.1 ∙ bytes_good a.text.rest.now u m e) in
+    c.choose.ensures ∙ ap (λ (v : List ℕ). candidate_in (candidates_of a.text.ending.tone a.text.ending.khin v) a.position a.out.now) (written_take h.2 ∙ same)

@@ -100,7 +100,7 @@ loop-c-preserved c =
     let at = (goal.at.loop-c-preserved c).In-loop-c in
     elim c.match-c.branch [
       | in-856 w ↦ rw (w.out-is, w.n-is, w.from.ensures) (one at _ (vowel_piece at w.in-856.is))
-      | in-8319 w ↦ rw (w.out-is, w.n-is) (two at (nasal_piece at (λ e. omega (arith, e, w.in-8319.is)) w.in-8319.is))
+      | in-8319 w ↦ rw (w.out-is, w.n-is, w.from-in-8319.ensures, w.from-in-8319-2.ensures) (two at (nasal_piece at (λ e. omega (arith, e, w.in-8319.is)) w.in-8319.is))
       | in_default w ↦
           let no_dot : get_or c.args.s.now c.loop-c.c-index 0 ≡ 0x0358 → ⊥ = search rules in
           let no_nasal : get_or c.args.s.now c.loop-c.c-index 0 ≡ point "ⁿ" → ⊥ = search rules in

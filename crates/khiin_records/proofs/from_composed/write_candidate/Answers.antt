@@ -7,7 +7,7 @@ use Rattle.khiin_records.proofs.from_composed.write_candidate.Goals as goal
 pub returns-in-None : goal.returns-in-None
 returns-in-None c =
     let a = c.args in
-    λ u e. no_vowel a.ending.tone a.ending.khin u a.out.now (dot_in a.s.now) (sym (ap dot_in e ∙ dot_listed u)) a.position (sym c.vowel_at.ensures ∙ c.in-None.is)
+    λ u e. no_vowel a.text.ending.tone a.text.ending.khin u a.out.now (dot_in a.text.rest.now) (sym (ap dot_in e ∙ dot_listed u)) a.position (sym c.vowel_at.ensures ∙ c.in-None.is)
 
 pub returns-in-Some : goal.returns-in-Some
 returns-in-Some c =
@@ -16,5 +16,5 @@ returns-in-Some c =
     let p = c.put-len in
     λ u e.
     rw (c.record.ensures, c.from.ensures)
-    (quick_answer a.ending.tone a.ending.khin u a.s.now e a.out.now w.new.out p.new.out a.position c.in-Some.vowel w.result.len w.result.count p.result
+    (quick_answer a.text.ending.tone a.text.ending.khin u a.text.rest.now e a.out.now w.new.out p.new.out a.position c.in-Some.vowel w.result.len w.result.count p.result
     (sym c.vowel_at.ensures ∙ c.in-Some.is) w.ensures.0 w.ensures.1 w.ensures.2 p.ensures.0 p.ensures.1 c.requires)
