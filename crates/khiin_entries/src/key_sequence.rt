@@ -21,7 +21,8 @@ pub struct KeyingResult {
     pub count: u64,
 }
 
-// How many parts an entry has, if they are at most sixteen and none has more than 256 bytes.
+// How many parts an entry has, if they are at most sixteen and none has more than 256 bytes. The loop ends at the first part that is one too many or too
+// long, where `count` of all parts and `all` would go through the entry twice.
 fn count_parts(entry: &[u8]) -> Option<usize>
     ensures { result ≡ part_count entry.now }
 {
@@ -61,6 +62,7 @@ pub(crate) struct Row {
     pub end: usize,
 }
 
+// One form or two, as the definition has them: where there is one, there is neither a second place nor a second length.
 // One form, as it is and, if it is toned, without its last byte, the key of the tone.
 fn row_one(at: usize, mid: usize, toned: bool) -> Row
     requires { (at ≤ mid) × (mid ≤ 65535) }
@@ -106,9 +108,10 @@ fn lay_single(part: &[u8], kind: Kind, forms: &mut [u8], at: usize) -> Row
     let mid = put_form(part, Form::Plain, kind, forms, at);
     let end = put_form(part, Form::Oo, kind, forms, mid);
     if forms[at..mid] == forms[mid..end] {
-        return row_one(at, mid, false);
+        row_one(at, mid, false)
+    } else {
+        row_two(at, mid, end, false)
     }
-    row_two(at, mid, end, false)
 }
 
 // The forms of a part of several.
@@ -119,9 +122,10 @@ fn lay_part(part: &[u8], kind: Kind, forms: &mut [u8], at: usize) -> Row
     let mid = put_form(part, Form::Plain, kind, forms, at);
     if holds_dot(part) {
         let end = put_form(part, Form::Oo, kind, forms, mid);
-        return row_two(at, mid, end, is_toned(kind));
+        row_two(at, mid, end, is_toned(kind))
+    } else {
+        row_one(at, mid, is_toned(kind))
     }
-    row_one(at, mid, is_toned(kind))
 }
 
 fn lay_row(part: &[u8], single: bool, kind: Kind, forms: &mut [u8], at: usize) -> Row
@@ -129,9 +133,10 @@ fn lay_row(part: &[u8], single: bool, kind: Kind, forms: &mut [u8], at: usize) -
     ensures { RowOf unicode16 single kind part.now at forms.old forms.new result }
 {
     if single {
-        return lay_single(part, kind, forms, at);
+        lay_single(part, kind, forms, at)
+    } else {
+        lay_part(part, kind, forms, at)
     }
-    lay_part(part, kind, forms, at)
 }
 
 // Lays out the parts of an entry, with their forms in `forms`.
@@ -180,19 +185,19 @@ fn place(layout: &Layout, position: u64, out: &mut [u8]) -> Result<KeyingResult,
     })
 }
 
-// The keying at a position of a good entry, whose forms are laid out in `forms`.
-fn keying_in(
+// The keying at a position of a good entry, whose forms are laid out in N bytes.
+fn keying_with<const N: usize>(
     entry: &[u8],
     parts: usize,
     kind: Kind,
     position: u64,
-    forms: &mut [u8],
     out: &mut [u8],
 ) -> Result<KeyingResult, Refusal>
-    requires { Entry entry.now parts × (5 * length entry.now + 32 ≤ length forms.old) × (length forms.old ≤ 65535) }
+    requires { Entry entry.now parts × (5 * length entry.now + 32 ≤ N) × (N ≤ 65535) }
     ensures { keying_reply result out.new ≡ keying_call unicode16 entry.now kind position out.old }
 {
-    let layout = lay_out(entry, parts, kind, forms);
+    let mut forms = [0u8; N];
+    let layout = lay_out(entry, parts, kind, &mut forms);
     place(&layout, position, out)
 }
 
@@ -209,11 +214,10 @@ fn keying_of(
     ensures { keying_reply result out.new ≡ keying_call unicode16 entry.now kind position out.old }
 {
     if entry.len() <= 32 {
-        let mut forms = [0u8; 192];
-        return keying_in(entry, parts, kind, position, &mut forms, out);
+        keying_with::<192>(entry, parts, kind, position, out)
+    } else {
+        keying_with::<5152>(entry, parts, kind, position, out)
     }
-    let mut forms = [0u8; 5152];
-    keying_in(entry, parts, kind, position, &mut forms, out)
 }
 
 // The keying of an entry at a position of the list of a kind, in `out`.

@@ -91,6 +91,6 @@ pub row_one-requires : goal.row_one-requires
 row_one-requires c =
     omega (arith, (plain (goal.at.row_one-requires c).After-put_form-mid).ends, one_short _ _ _ _ (plain (goal.at.row_one-requires c).After-put_form-mid))
 
-pub returns : goal.returns
-returns c =
-    one (goal.at.returns c).After-put_form-mid c.row_one.result _ c.row_one.ensures (sym c.is_toned-2.ensures) (sym c.holds_dot.ensures ∙ c.if-holds_dot.false)
+pub returns-else-holds_dot : goal.returns-else-holds_dot
+returns-else-holds_dot c =
+    one (goal.at.returns-else-holds_dot c).After-put_form-mid c.row_one.result _ c.row_one.ensures (sym c.is_toned-else-holds_dot.ensures) (sym c.holds_dot.ensures ∙ c.if-holds_dot.false)

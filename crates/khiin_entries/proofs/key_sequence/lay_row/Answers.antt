@@ -10,7 +10,7 @@ returns-then-single c =
     let a = c.args in
     subst (λ (b : Bool). RowOf unicode16 b a.kind a.part.now a.at a.forms.now c.lay_single.new.forms c.lay_single.result) (sym c.if-single.true) c.lay_single.ensures
 
-pub returns : goal.returns
-returns c =
+pub returns-else-single : goal.returns-else-single
+returns-else-single c =
     let a = c.args in
     subst (λ (b : Bool). RowOf unicode16 b a.kind a.part.now a.at a.forms.now c.lay_part.new.forms c.lay_part.result) (sym c.if-single.false) c.lay_part.ensures

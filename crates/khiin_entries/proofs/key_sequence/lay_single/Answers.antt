@@ -86,6 +86,6 @@ returns-then-eq c =
 pub row_two-requires : goal.row_two-requires
 row_two-requires c = omega (arith, ordered (goal.at.row_two-requires c).After-put_form-end)
 
-pub returns : goal.returns
-returns c =
-    two (goal.at.returns c).After-put_form-end c.row_two.result c.row_two.ensures (compared (goal.at.returns c).After-put_form-end _ c.eq.ensures ∙ c.if-eq.false)
+pub returns-else-eq : goal.returns-else-eq
+returns-else-eq c =
+    two (goal.at.returns-else-eq c).After-put_form-end c.row_two.result c.row_two.ensures (compared (goal.at.returns-else-eq c).After-put_form-end _ c.eq.ensures ∙ c.if-eq.false)

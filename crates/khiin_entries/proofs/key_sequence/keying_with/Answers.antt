@@ -1,11 +1,11 @@
--- `key_sequence::keying_in` meets its contract.
+-- `key_sequence::keying_with` meets its contract.
 use Rattle.std.proofs.Common.{◌∙◌}
 use Rattle.khiin_entries.specs.Choices.{Entry}
 use Rattle.khiin_entries.proofs.key_sequence.Calling.{laid_call}
-use Rattle.khiin_entries.proofs.key_sequence.keying_in.Goals as goal
+use Rattle.khiin_entries.proofs.key_sequence.keying_with.Goals as goal
 
 pub returns : goal.returns
-returns c =
+returns g c =
     let l = c.lay_out-layout in
     let h : Entry c.args.entry.now l.result.parts = rw l.ensures.0 c.requires.0 in
     c.place.ensures ∙ laid_call h c.args.kind c.args.position c.args.out.now _ _ _ _ _ l.result.laid l.ensures.1
