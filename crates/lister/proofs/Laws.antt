@@ -1,5 +1,7 @@
 -- Blocks of lines: each has no more lines than are left, and starts where the one before it ends.
-use Rattle.std.proofs.Common.{Option, Some, None, IfSome, ◌≡◌, ℕ, ◌+◌, ◌-◌, ◌≤◌, List, [], ◌++◌, length, take, drop, sym, ap, subst, ◌∙◌, arith, length-append, length-drop, length-take-le, take-append-drop, take-add, append-nil}
+use Rattle.std.proofs.Common.{Bool, true, false, ltb, Option, Some, None, IfSome, unwrap_or, ◌≡◌, ℕ, ◌+◌, ◌-◌, ◌<◌, ◌≤◌, List, [], ◌++◌, length, take, drop, sym, ap, subst, ◌∙◌, arith, length-append, length-drop, length-take-le, take-append-drop, take-add, append-nil}
+use Rattle.std.specs.Bool.{then_some}
+use Rattle.std.proofs.lemmas.Bool.{ltb-true, ltb-false}
 use Rattle.std.proofs.Math.Seq.{take-append-add}
 use Rattle.std.proofs.lemmas.List.{take-append-le}
 use Rattle.std.specs.Io.KnownBytes.{Consumes}
@@ -20,6 +22,12 @@ next_inside entry from room next e =
     let left = drop from (listing unicode16 entry) in
     (omega arith, omega (arith, e, going_count left room, fit_most left room, length-drop from (listing unicode16 entry)))
 
+-- the same, where the next number is told only if a line was written
+pub next_told : (entry : List ℕ) (from room next : ℕ) → next ≡ from + length (shown unicode16 entry from room) → (b : Bool) → b ≡ ltb from next
+    → IfSome (then_some b next) (λ n. (from < n) × (n ≤ from + (length (listing unicode16 entry) - from))) × (from + length (shown unicode16 entry from room) ≡ unwrap_or (then_some b next) from)
+next_told entry from room next e true t = ((ltb-true from next (sym t), (next_inside entry from room next e).1), sym e)
+next_told entry from room next e false t = (tt, omega (arith, (next_inside entry from room next e).0, ltb-false from next (sym t)))
+
 module _ (entry : List ℕ) where
   abbrev ls : List (List ℕ)
   ls = listing unicode16 entry
@@ -37,13 +45,11 @@ module _ (entry : List ℕ) where
       sym (ap (λ (m : ℕ). together (take m ls)) n ∙ ap together (take-add from k ls) ∙ together_append (take from ls) (take k (drop from ls)))
 
   -- where a block has no line, all were printed
-  pub printed_all : (from next : ℕ) → next ≡ from + length (shown unicode16 entry from 65536) → next ≤ from → together (take next ls) ≡ together ls
+  pub printed_all : (from : ℕ) → from + length (shown unicode16 entry from 65536) ≡ from → together (take from ls) ≡ together ls
   unfolding shown
-  printed_all from next e h =
+  printed_all from e =
       let none : drop from ls ≡ [] = none_left (drop from ls) 65536 (short_drop 65536 from ls (listing_short entry)) (omega (arith, e, going_count (drop from ls) 65536)) in
-      let last : next ≡ from = omega arith in
-      ap (λ (m : ℕ). together (take m ls)) last
-      ∙ ap together (sym (append-nil (take from ls)) ∙ ap (λ (l : List (List ℕ)). take from ls ++ l) (sym none) ∙ take-append-drop from ls)
+      ap together (sym (append-nil (take from ls)) ∙ ap (λ (l : List (List ℕ)). take from ls ++ l) (sym none) ∙ take-append-drop from ls)
 
 -- ── what is read
 -- bytes that are read behind the first n stay in the buffer

@@ -5,7 +5,7 @@
 #[cfg(test)]
 mod tests;
 
-ghost use Rattle.std.specs.Prelude.{◌≡◌, ◌+◌, ◌-◌, ◌≤◌, length, take, IfOk, IfSome, OnOk, OnErr};
+ghost use Rattle.std.specs.Prelude.{◌≡◌, ◌+◌, ◌-◌, ◌<◌, ◌≤◌, length, take, unwrap_or, IfOk, IfSome, OnOk, OnErr};
 ghost use Rattle.std.specs.Io.KnownBytes.{Appends};
 ghost use Rattle.std.specs.Process.{exit_status};
 ghost use Rattle.ji.specs.Unicode.{unicode16};
@@ -70,20 +70,20 @@ fn read_text<'a, R: Read>(reader: &mut R, text: &'a mut [u8; MOST]) -> io::Resul
     Ok(&text[..n])
 }
 
-// Writes a block of lines from number `from` on, and returns the number of the next line: the same, where no line is left.
+// Writes a block of lines from number `from` on, and returns the number of the next line, where there was a line to write.
 fn print_block<W: Write>(
     writer: &mut W,
     entry: &[u8],
     from: u64,
     block: &mut [u8],
-) -> io::Result<u64>
-    ensures range { IfOk result (λ next. (from ≤ next) × (next ≤ from + (length (listing unicode16 entry.now) - from))) }
-    ensures next { IfOk result (λ next. next ≡ from + length (shown unicode16 entry.now from (length block.old))) }
+) -> io::Result<Option<u64>>
+    ensures range { IfOk result (λ next. IfSome next (λ n. (from < n) × (n ≤ from + (length (listing unicode16 entry.now) - from)))) }
+    ensures next { IfOk result (λ next. from + length (shown unicode16 entry.now from (length block.old)) ≡ unwrap_or next from) }
     ensures written { OnOk result (Appends (W.contents writer.old) (W.contents writer.new) (together (shown unicode16 entry.now from (length block.old)))) }
 {
     let listed = listing::list(entry, from, block);
     writer.write_all(&block[..listed.len.0])?;
-    Ok(listed.next)
+    Ok((from < listed.next).then_some(listed.next))
 }
 
 // Writes the whole listing. A line is shorter than a block, so each block but the last has some.
@@ -92,13 +92,10 @@ fn print_listing<W: Write>(writer: &mut W, entry: &[u8]) -> io::Result<()>
 {
     let mut block = [0u8; 65536];
     let mut next: u64 = 0;
-    loop {
-        let from = next;
-        next = print_block(writer, entry, from, &mut block)?;
-        if next == from {
-            return Ok(());
-        }
+    while let Some(after) = print_block(writer, entry, next, &mut block)? {
+        next = after;
     }
+    Ok(())
 }
 
 // Reads an entry and writes its listing.
