@@ -36,15 +36,24 @@ fn count_parts(entry: &[u8]) -> Option<usize>
     Some(parts)
 }
 
-// How many parts an entry has, if it is one that has keyings.
-pub(crate) fn parts_of(entry: &[u8]) -> Result<usize, Refusal>
-    ensures { MatchResult result (λ parts. Entry entry.now parts) (λ why. check_entry unicode16 entry.now ≡ bad why) }
-{
-    unicode::check(entry, 1024)?;
-    count_parts(entry).ok_or(Refusal::Parts)
+// An entry that has keyings, and how many parts it has.
+#[derive(Clone, Copy)]
+pub(crate) struct Parted<'a> {
+    pub entry: &'a [u8],
+    pub parts: usize,
+    ghost good: { Entry entry.now parts },
 }
 
-// Writes a form of a part at `at`, and returns the place behind it.
+// An entry with its parts, if it is one that has keyings.
+pub(crate) fn parts_of(entry: &[u8]) -> Result<Parted, Refusal>
+    ensures { MatchResult result (λ parted. parted.entry.now ≡ entry.now) (λ why. check_entry unicode16 entry.now ≡ bad why) }
+{
+    unicode::check(entry, 1024)?;
+    let parts = count_parts(entry).ok_or(Refusal::Parts)?;
+    Ok(Parted { entry, parts })
+}
+
+// Writes a form of a part at `at`, and returns the place behind it. The parts before it gave the place, so a struct of both would only rename the two.
 fn put_form(part: &[u8], form: Form, kind: Kind, forms: &mut [u8], at: usize) -> usize
     requires { (check_text unicode16 part.now ≡ good (points_of part.now)) × (at + length (form_bytes unicode16 form kind part.now) ≤ length forms.old) }
     ensures { (result ≡ at + length (form_bytes unicode16 form kind part.now)) × (forms.new ≡ paste forms.old at (form_bytes unicode16 form kind part.now) (length (form_bytes unicode16 form kind part.now))) }
@@ -62,8 +71,7 @@ pub(crate) struct Row {
     pub end: usize,
 }
 
-// One form or two, as the definition has them: where there is one, there is neither a second place nor a second length.
-// One form, as it is and, if it is toned, without its last byte, the key of the tone.
+// One form, as it is and, if it is toned, without its last byte, the key of the tone. The definition too has a row of one form and one of two.
 fn row_one(at: usize, mid: usize, toned: bool) -> Row
     requires { (at ≤ mid) × (mid ≤ 65535) }
     ensures { result ≡ row_one at mid toned }
@@ -140,16 +148,16 @@ fn lay_row(part: &[u8], single: bool, kind: Kind, forms: &mut [u8], at: usize) -
 }
 
 // Lays out the parts of an entry, with their forms in `forms`.
-pub(crate) fn lay_out<'a>(entry: &[u8], parts: usize, kind: Kind, forms: &'a mut [u8]) -> Layout<'a>
-    requires { Entry entry.now parts × (5 * length entry.now + 32 ≤ length forms.old) × (length forms.old ≤ 65535) }
-    ensures { (result.parts ≡ parts) × (laid_out result.forms.now result.offsets result.lengths result.radices result.parts ≡ choices_in unicode16 kind entry.now) }
+pub(crate) fn lay_out<'a>(parted: &Parted, kind: Kind, forms: &'a mut [u8]) -> Layout<'a>
+    requires { (5 * length parted.now.entry.now + 32 ≤ length forms.old) × (length forms.old ≤ 65535) }
+    ensures { (result.parts ≡ parted.now.parts) × (laid_out result.forms.now result.offsets result.lengths result.radices result.parts ≡ choices_in unicode16 kind parted.now.entry.now) }
 {
     let mut offsets = [[0u16; 4]; 16];
     let mut lengths = [[0u16; 4]; 16];
     let mut radices = [0u8; 16];
     let mut used: usize = 0;
-    for (i, part) in entry.split(|b| *b == b' ').enumerate() {
-        let row = lay_row(part, parts == 1, kind, forms, used);
+    for (i, part) in parted.entry.split(|b| *b == b' ').enumerate() {
+        let row = lay_row(part, parted.parts == 1, kind, forms, used);
         // The arrays go through variables, for so the borrow checker covers their stores.
         let (starts, sizes) = (row.offsets, row.lengths);
         offsets[i] = starts;
@@ -162,7 +170,7 @@ pub(crate) fn lay_out<'a>(entry: &[u8], parts: usize, kind: Kind, forms: &'a mut
         offsets,
         lengths,
         radices,
-        parts,
+        parts: parted.parts,
     }
 }
 
@@ -187,36 +195,33 @@ fn place(layout: &Layout, position: u64, out: &mut [u8]) -> Result<KeyingResult,
 
 // The keying at a position of a good entry, whose forms are laid out in N bytes.
 fn keying_with<const N: usize>(
-    entry: &[u8],
-    parts: usize,
+    parted: &Parted,
     kind: Kind,
     position: u64,
     out: &mut [u8],
 ) -> Result<KeyingResult, Refusal>
-    requires { Entry entry.now parts × (5 * length entry.now + 32 ≤ N) × (N ≤ 65535) }
-    ensures { keying_reply result out.new ≡ keying_call unicode16 entry.now kind position out.old }
+    requires { (5 * length parted.now.entry.now + 32 ≤ N) × (N ≤ 65535) }
+    ensures { keying_reply result out.new ≡ keying_call unicode16 parted.now.entry.now kind position out.old }
 {
     let mut forms = [0u8; N];
-    let layout = lay_out(entry, parts, kind, &mut forms);
+    let layout = lay_out(parted, kind, &mut forms);
     place(&layout, position, out)
 }
 
 // A form has at most five bytes for each two of its part, and one more, and a part has two forms. Entries of at most 32 bytes, as most have, go in a
 // small buffer: clearing it is quicker.
 fn keying_of(
-    entry: &[u8],
-    parts: usize,
+    parted: &Parted,
     kind: Kind,
     position: u64,
     out: &mut [u8],
 ) -> Result<KeyingResult, Refusal>
-    requires { Entry entry.now parts }
-    ensures { keying_reply result out.new ≡ keying_call unicode16 entry.now kind position out.old }
+    ensures { keying_reply result out.new ≡ keying_call unicode16 parted.now.entry.now kind position out.old }
 {
-    if entry.len() <= 32 {
-        keying_with::<192>(entry, parts, kind, position, out)
+    if parted.entry.len() <= 32 {
+        keying_with::<192>(parted, kind, position, out)
     } else {
-        keying_with::<5152>(entry, parts, kind, position, out)
+        keying_with::<5152>(parted, kind, position, out)
     }
 }
 
@@ -229,6 +234,6 @@ pub fn keying_at(
 ) -> Result<KeyingResult, Refusal>
     ensures { keying_reply result out.new ≡ keying_call unicode16 entry.now kind position out.old }
 {
-    let parts = parts_of(entry)?;
-    keying_of(entry, parts, kind, position, out)
+    let parted = parts_of(entry)?;
+    keying_of(&parted, kind, position, out)
 }

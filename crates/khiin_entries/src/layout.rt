@@ -5,7 +5,7 @@ ghost use Rattle.std.proofs.Math.Seq.{paste};
 ghost use Rattle.khiin_entries.specs.Choices.{Radix, Laid, count_in, length_in, keying_in};
 
 // At most sixteen parts. Of each part's choices `offsets` says where they stand in `forms`, and `lengths` how many bytes they have; its radix says how
-// many they are.
+// many they are. By a rule of the project the places and lengths of each part and choice stand in arrays of arrays by value.
 #[derive(Clone, Copy)]
 pub(crate) struct Layout<'a> {
     pub forms: &'a [u8],

@@ -3,11 +3,11 @@ ghost use Rattle.std.specs.Prelude.{◌≡◌, [], ◌∷◌, ◌+◌, ◌≤◌
 ghost use Rattle.ji.specs.Unicode.{unicode16};
 ghost use Rattle.ji.specs.Reply.{over};
 ghost use Rattle.khiin_entries.specs.KeySequence.{split};
-ghost use Rattle.khiin_entries.specs.Choices.{Entry, length_in};
+ghost use Rattle.khiin_entries.specs.Choices.{length_in};
 ghost use Rattle.khiin_entries.specs.Listing.{decimal, listing, together, shown};
 ghost use Rattle.khiin_entries.specs.Lines.{number_then, header_line, refusal_line, dotted_in, line_in, lines_in, Put, Shown, Following};
 
-use crate::key_sequence::{lay_out, parts_of};
+use crate::key_sequence::{Parted, lay_out, parts_of};
 use crate::layout::Layout;
 use ji::lomaji::dot::holds_dot;
 use ji::lomaji::keys::Kind;
@@ -28,7 +28,8 @@ fn digit_count(n: u64) -> usize
     n.checked_ilog10().unwrap_or(0) as usize + 1
 }
 
-// Writes a number, from its last digit to its first, and a byte behind it. Returns the place behind both.
+// Writes a number, from its last digit to its first, and a byte behind it. Returns the place behind both. `write!` into a slice would ask each caller to
+// take apart an answer of the library that cannot be an error here, and to count what was written.
 fn put_number(n: u64, last: u8, out: &mut [u8], at: usize) -> usize
     requires { at + length (decimal n) < length out.old }
     ensures { Put out.old out.new at (number_then n last) result }
@@ -151,23 +152,22 @@ fn list_refusal(why: Refusal, from: u64, out: &mut [u8]) -> Listed
     put_first(&line[..end], from, out)
 }
 
-// All lines of a good entry. Every kind is laid out first, because the header says how many keyings there are of each.
-fn list_entry(entry: &[u8], parts: usize, from: u64, out: &mut [u8]) -> Listed
-    requires { Entry entry.now parts }
-    ensures { Shown (listing unicode16 entry.now) from 0 out.old out.new result.next result.len.0 }
+// All lines of a good entry. The three kinds stand side by side, because the header says how many keyings there are of each before the first line of one.
+fn list_entry(parted: &Parted, from: u64, out: &mut [u8]) -> Listed
+    ensures { Shown (listing unicode16 parted.now.entry.now) from 0 out.old out.new result.next result.len.0 }
 {
     let mut numeric_forms = [0u8; 5152];
     let mut telex_forms = [0u8; 5152];
     let mut detoned_forms = [0u8; 5152];
-    let numeric = lay_out(entry, parts, Kind::Numeric, &mut numeric_forms);
-    let telex = lay_out(entry, parts, Kind::Telex, &mut telex_forms);
-    let detoned = lay_out(entry, parts, Kind::Detoned, &mut detoned_forms);
-    let dots = count_dotted(entry);
+    let numeric = lay_out(parted, Kind::Numeric, &mut numeric_forms);
+    let telex = lay_out(parted, Kind::Telex, &mut telex_forms);
+    let detoned = lay_out(parted, Kind::Detoned, &mut detoned_forms);
+    let dots = count_dotted(parted.entry);
     let numeric_count = numeric.count();
     let telex_count = telex.count();
     let detoned_count = detoned.count();
     let counts = [
-        parts as u64,
+        parted.parts as u64,
         dots,
         numeric_count,
         telex_count,
@@ -184,7 +184,7 @@ pub fn list(entry: &[u8], from: u64, out: &mut [u8]) -> Listed
     ensures { (result.next ≡ from + length (shown unicode16 entry.now from (length out.old))) × (result.len.0 ≡ length (together (shown unicode16 entry.now from (length out.old)))) × (out.new ≡ over (together (shown unicode16 entry.now from (length out.old))) out.old) }
 {
     match parts_of(entry) {
-        Ok(parts) => list_entry(entry, parts, from, out),
+        Ok(parted) => list_entry(&parted, from, out),
         Err(why) => list_refusal(why, from, out),
     }
 }

@@ -24,7 +24,7 @@ use Rattle.khiin_entries.proofs.key_sequence.Combining.{count_is, keying_is}
 use Rattle.khiin_entries.proofs.key_sequence.Product.{size, place}
 use Rattle.khiin_entries.proofs.key_sequence.Laying.{count_laid, keying_laid}
 use Rattle.khiin_entries.proofs.key_sequence.Filling.{entry_passed, entry_parts}
-use Rattle.std.specs.Prelude.{Option as Found, Some, None, Result, Ok, Err, MatchResult, ok_or, cond, ⊤}
+use Rattle.std.specs.Prelude.{Option as Found, Some, None, Result, Ok, Err, ok_or, cond, ⊤}
 
 -- ── the reply from the arrays
 module _ (count : ℕ) (output : List ℕ) (position : ℕ) (buffer : List ℕ) where
@@ -134,14 +134,18 @@ module _ (entry : List ℕ) (answer : Result ⊤ Refusal) (says : answer ≡ ver
         let test = leb (length (split entry)) 16 && all_short (split entry) in
         either test (λ b. let some = sym (ap (λ (x : Bool). cond x (Some (length (split entry))) None) b) ∙ none in cc) (λ b. b)
 
-    parts_refused : part_count entry ≡ None → check_entry unicode16 entry ≡ bad Parts
+    none_refused : part_count entry ≡ None → check_entry unicode16 entry ≡ bad Parts
     unfolding check_entry
-    parts_refused none =
+    none_refused none =
         ap (check_parts unicode16) check_is ∙ ap (λ (b : Bool). pick_checked b (good text) (bad Parts)) (fits_same ∙ not_counted none)
 
-    pub parts_said : (found : Found ℕ) → found ≡ part_count entry → MatchResult (ok_or found Parts) (λ parts. Entry entry parts) (λ why. check_entry unicode16 entry ≡ bad why)
-    parts_said None c = parts_refused (sym c)
-    parts_said (Some parts) c = entry_good parts (sym c)
+    pub parts_refused : (found : Found ℕ) → found ≡ part_count entry → (why : Refusal) → ok_or found Parts ≡ Err why → check_entry unicode16 entry ≡ bad why
+    parts_refused None c why e = let w : Parts ≡ why = cc in none_refused (sym c) ∙ ap bad w
+    parts_refused (Some parts) c why e = absurd (let z : ◌≡◌ {A = ℕ} 0 1 = cc in omega arith)
+
+    pub parts_good : (found : Found ℕ) → found ≡ part_count entry → (parts : ℕ) → ok_or found Parts ≡ Ok parts → Entry entry parts
+    parts_good None c parts e = absurd (let z : ◌≡◌ {A = ℕ} 0 1 = cc in omega arith)
+    parts_good (Some n) c parts e = let w : n ≡ parts = cc in entry_good parts (sym c ∙ ap Some w)
 
 pub call_refused : (entry : List ℕ) (kind : Kind) (position : ℕ) (buffer : List ℕ) (why : Refusal) → check_entry unicode16 entry ≡ bad why → refused why buffer ≡ keying_call unicode16 entry kind position buffer
 unfolding keying_call

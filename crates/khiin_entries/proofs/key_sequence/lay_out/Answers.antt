@@ -14,23 +14,24 @@ module _ (t : In-Some) where
   abbrev k : ℕ
   k = length t.loop-i.yielded
 
-  turn : (k < length (split t.args.entry.now)) × (t.in-Some.i ≡ k) × (t.in-Some.part.now ≡ get_or (split t.args.entry.now) k [])
+  turn : (k < length (split t.args.parted.now.entry.now)) × (t.in-Some.i ≡ k) × (t.in-Some.part.now ≡ get_or (split t.args.parted.now.entry.now) k [])
   turn =
-      numbered_part t.args.entry.now k t.in-Some.i t.in-Some.part.now
-      (YieldsList-turn (YieldsList-from_enumerate (YieldsList-from_slice_split _ is_space t.args.entry.now (cc) (cc) (cc) (λ x b q k. search (rules, tests))) cc) t.loop-i.yielded _ t.loop-i.yielded_by _ _ _ t.in-Some.is t.next.ensures.steps)
+      numbered_part t.args.parted.now.entry.now k t.in-Some.i t.in-Some.part.now
+      (YieldsList-turn (YieldsList-from_enumerate (YieldsList-from_slice_split _ is_space t.args.parted.now.entry.now (cc) (cc) (cc) (λ x b q k. search (rules, tests))) cc) t.loop-i.yielded _ t.loop-i.yielded_by _ _ _ t.in-Some.is t.next.ensures.steps)
 
   few : t.in-Some.i < 16
-  few = omega (arith, turn, entry_parts t.requires.0)
+  few = omega (arith, turn, entry_parts t.args.parted.now.good)
 
 pub loop-i-init : goal.loop-i-init
 loop-i-init c = record { size = refl; inside = omega arith; filling = filling_start _ _ _ _ _ _ refl refl refl }
 
 pub lay_row-row-requires : goal.lay_row-row-requires
 lay_row-row-requires c =
+    let e = c.args.parted.now.good in
     let p = c.requires in
     let was = c.loop-i.invariant in
     let t = turn (goal.at.lay_row-row-requires c).In-Some in
-    rw t.2 (entry_part p.0 _ (omega (arith, t.0, entry_parts p.0)), omega (arith, filling_room p.0 was.filling t.0, was.size, p.1), omega (arith, was.size, p.2))
+    rw t.2 (entry_part e _ (omega (arith, t.0, entry_parts e)), omega (arith, filling_room e was.filling t.0, was.size, p.0), omega (arith, was.size, p.1))
 
 pub bounds-offsets-i : goal.bounds-offsets-i
 bounds-offsets-i c = few (goal.at.bounds-offsets-i c).In-Some
@@ -43,6 +44,7 @@ bounds-radices-i c = few (goal.at.bounds-radices-i c).In-Some
 
 pub loop-i-preserved : goal.loop-i-preserved
 loop-i-preserved c =
+    let e = c.args.parted.now.good in
     let p = c.requires in
     let was = c.loop-i.invariant in
     let t = turn (goal.at.loop-i-preserved c).In-Some in
@@ -50,22 +52,22 @@ loop-i-preserved c =
     let size = c.lay_row-row.auto.forms in
     record {
       size = size ∙ was.size;
-      inside = omega (arith, row.short, filling_room p.0 was.filling t.0, size, was.size, p.1);
-      filling = rw (t.1, length_push) (filling_next p.0 was.filling t.0 _ _ row);
+      inside = omega (arith, row.short, filling_room e was.filling t.0, size, was.size, p.0);
+      filling = rw (t.1, length_push) (filling_next e was.filling t.0 _ _ row);
     }
 
 -- every part had its turn
-all : (t : In-None) → length t.loop-i.yielded ≡ t.args.parts
+all : (t : In-None) → length t.loop-i.yielded ≡ t.args.parted.now.parts
 all t =
-    numbered_all t.args.entry.now _
-    (YieldsList-end (YieldsList-from_enumerate (YieldsList-from_slice_split _ is_space t.args.entry.now (cc) (cc) (cc) (λ x b q k. search (rules, tests))) cc) t.loop-i.yielded _ t.loop-i.yielded_by _ _ t.in-None.is t.next.ensures.steps).1
-    ∙ sym (entry_parts t.requires.0).0
+    numbered_all t.args.parted.now.entry.now _
+    (YieldsList-end (YieldsList-from_enumerate (YieldsList-from_slice_split _ is_space t.args.parted.now.entry.now (cc) (cc) (cc) (λ x b q k. search (rules, tests))) cc) t.loop-i.yielded _ t.loop-i.yielded_by _ _ t.in-None.is t.next.ensures.steps).1
+    ∙ sym (entry_parts t.args.parted.now.good).0
 
 pub invariant_of-result : goal.invariant_of-result
 invariant_of-result c =
     let was = c.loop-i.invariant in
-    record { few = (entry_parts c.requires.0).1; laid = filling_laid was.filling (all (goal.at.invariant_of-result c).In-None) was.inside }
+    record { few = (entry_parts c.args.parted.now.good).1; laid = filling_laid was.filling (all (goal.at.invariant_of-result c).In-None) was.inside }
 
 pub returns : goal.returns
 returns c =
-    (refl, filling_all c.requires.0 c.loop-i.invariant.filling (all (goal.at.returns c).In-None))
+    (refl, filling_all c.args.parted.now.good c.loop-i.invariant.filling (all (goal.at.returns c).In-None))

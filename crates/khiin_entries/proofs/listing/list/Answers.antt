@@ -9,7 +9,7 @@ use Rattle.khiin_entries.proofs.listing.list.Goals as goal
 pub returns-in-Ok : goal.returns-in-Ok
 returns-in-Ok c =
     let a = c.args in
-    told a.entry.now (listing unicode16 a.entry.now) a.from a.out.now _ _ _ refl c.list_entry.ensures
+    told a.entry.now (listing unicode16 a.entry.now) a.from a.out.now _ _ _ refl (rw c.in-Ok.ensures at c.list_entry.ensures)
 
 pub returns-in-Err : goal.returns-in-Err
 returns-in-Err c =
