@@ -53,7 +53,8 @@ pub(crate) fn parts_of(entry: &[u8]) -> Result<Parted, Refusal>
     Ok(Parted { entry, parts })
 }
 
-// Writes a form of a part at `at`, and returns the place behind it. The parts before it gave the place, so a struct of both would only rename the two.
+// Writes a form of a part at `at`, and returns the place behind it.
+// A row is made of the places before, between and behind its forms, so a place is a value of its own, and no field beside the buffer that moves.
 fn put_form(part: &[u8], form: Form, kind: Kind, forms: &mut [u8], at: usize) -> usize
     requires { (check_text unicode16 part.now ≡ good (points_of part.now)) × (at + length (form_bytes unicode16 form kind part.now) ≤ length forms.old) }
     ensures { (result ≡ at + length (form_bytes unicode16 form kind part.now)) × (forms.new ≡ paste forms.old at (form_bytes unicode16 form kind part.now) (length (form_bytes unicode16 form kind part.now))) }

@@ -46,7 +46,7 @@ fn digit_of(position: u64, radix: u8) -> Digit
 }
 
 impl<'a> Layout<'a> {
-    // How many keyings there are.
+    // How many keyings there are. As a chain that ends in `product` it did not prove: the product of every run of the radices has to be shown to fit.
     pub(crate) fn count(&self) -> u64
         ensures { (result ≡ count_in self.now.radices self.now.parts) × (result ≤ 4294967296) }
     {

@@ -28,8 +28,8 @@ fn digit_count(n: u64) -> usize
     n.checked_ilog10().unwrap_or(0) as usize + 1
 }
 
-// Writes a number, from its last digit to its first, and a byte behind it. Returns the place behind both. `write!` into a slice would ask each caller to
-// take apart an answer of the library that cannot be an error here, and to count what was written.
+// Writes a number, from its last digit to its first, and a byte behind it. Returns the place behind both.
+// The contract of the library's `write!` says nothing of the bytes that it writes into a slice, so the digits are written here.
 fn put_number(n: u64, last: u8, out: &mut [u8], at: usize) -> usize
     requires { at + length (decimal n) < length out.old }
     ensures { Put out.old out.new at (number_then n last) result }
@@ -45,6 +45,7 @@ fn put_number(n: u64, last: u8, out: &mut [u8], at: usize) -> usize
 }
 
 // Writes the line of the keying at a position. The keying has n bytes.
+// The layout and the letter are handed down as the definition of a kind's lines takes them; a struct of the two would be taken apart in every clause.
 fn put_line(
     layout: &Layout,
     letter: u8,
