@@ -1,5 +1,5 @@
 use Rattle.std.proofs.Common.{refl}
-use Rattle.lister.proofs.Laws.{next_inside, next_told}
+use Rattle.lister.proofs.Laws.{next_told}
 use Rattle.lister.proofs.print_block.Goals as goal
 
 pub returns-clause-range : goal.returns-clause-range
