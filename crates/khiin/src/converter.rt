@@ -10,7 +10,9 @@ ghost use Rattle.khiin.specs.Converter.{keys_in, key_to_tone, tone_to_key, is_se
 ghost use Rattle.khiin.specs.Telex.{edit_by, edit_at, edit_of, composed_of, edited, step_of, RestIn};
 
 use crate::syllable::compose::Composer;
-use crate::syllable::plain::compose_plain;
+use crate::syllable::letters::{
+    CAPITAL_E, CAPITAL_SIGN, DOT, DOTS, E, H, K, N, O, P, SMALL_SIGN, T, U,
+};
 use ji::lomaji::khin::Khin;
 use ji::lomaji::strip;
 use ji::lomaji::tone_letter::holds_letter;
@@ -20,14 +22,14 @@ use ji::tone::Tone;
 use ji::unicode::ByteLen;
 use ji::{reply, unicode};
 
-// How tone keys are chosen.
+// How tone keys are chosen. It stands beside the tone keys, since C passes these in either mode, and they are checked in both.
 #[derive(Clone, Copy, PartialEq, Eq)]
 pub enum ToneMode {
     Numeric,
     Telex,
 }
 
-// The tone keys of a setting.
+// The tone keys of a setting, in fields and no array: each is public, and named as the definitions name it.
 #[derive(Clone, Copy)]
 pub struct ToneKeys {
     pub t2: u8,
@@ -49,34 +51,7 @@ enum Edit {
     Compose,
 }
 
-// Letters as code points.
-const CAPITAL_E: u16 = b'E' as u16;
-
-const E: u16 = b'e' as u16;
-
-const H: u16 = b'h' as u16;
-
-const K: u16 = b'k' as u16;
-
-const N: u16 = b'n' as u16;
-
-const O: u16 = b'o' as u16;
-
-const P: u16 = b'p' as u16;
-
-const T: u16 = b't' as u16;
-
-const U: u16 = b'u' as u16;
-
-// The signs of a nasal vowel, small and capital; the dot of o+0358; the two dots of o+0324; and u with these as one code point.
-const SMALL_SIGN: u16 = 0x207F;
-
-const CAPITAL_SIGN: u16 = 0x1D3A;
-
-const DOT: u16 = 0x0358;
-
-const DOTS: u16 = 0x0324;
-
+// u with the two dots of o+0324 as one code point, small and capital.
 const SMALL_U_DOTS: u16 = 0x1E73;
 
 const CAPITAL_U_DOTS: u16 = 0x1E72;
@@ -97,7 +72,7 @@ fn is_setting(x: u8) -> bool
     (0x21..=0x7E).contains(&x)
 }
 
-// Whether every tone key may be set as it is.
+// Whether every tone key may be set as it is. The fields are no array, and the definition has a clause for each.
 fn settings_fit(k: ToneKeys) -> bool
     ensures { result ≡ settings_fit k }
 {
@@ -156,7 +131,7 @@ fn key_to_tone(k: ToneKeys, key: u16) -> Tone
     Tone::None
 }
 
-// The key of a tone, and a space where it has none.
+// The key of a tone, and a space where it has none, as the definition says it, and no Option.
 fn tone_to_key(k: ToneKeys, tone: Tone) -> u16
     ensures { result ≡ tone_to_key k tone }
 {
@@ -211,9 +186,8 @@ fn shared_or(k: ToneKeys, key: u16, tone: Tone, body: &[u16]) -> Tone
     ensures { result ≡ shared_or k key tone body.now }
 {
     if key != k.t8 as u16 {
-        return tone;
-    }
-    if ends_in_stop(body) {
+        tone
+    } else if ends_in_stop(body) {
         Tone::T8
     } else {
         key_to_tone(k, key)
@@ -264,7 +238,7 @@ fn without_last(bytes: &[u8], n: usize) -> usize
 fn takes_tone(tone: Tone, rest: &[u16]) -> bool
     ensures { result ≡ (not (is_first tone) || is_some (tone_letter rest.now)) }
 {
-    tone.number() != 1 || holds_letter(rest)
+    tone != Tone::T1 || holds_letter(rest)
 }
 
 // What a key makes of the body: how many code points it has, and its tone.
@@ -313,6 +287,7 @@ impl Step {
     }
 
     // The body and the tone when a key is typed behind the stripped text, with which `whole` begins; `len` is its length if the key joins it.
+    // Two slices would be no plainer: both are parts of one text, and `whole` says so.
     fn typed(self, whole: &[u16], n: usize, len: usize) -> Body
         requires { (n ≤ length whole.now) × (len ≤ length whole.now) }
         ensures { (result.len ≤ length whole.now) × (grown self.key (take n whole.now) ≡ take len whole.now → composed_of unicode16 self.keys self.key self.tone (take n whole.now) ≡ compose unicode16 (take n whole.now ++ (self.key ∷ [])) (take result.len whole.now) result.tone Khin.No) }
@@ -355,14 +330,14 @@ impl Step {
     {
         points[n] = self.key as u16;
         let body = self.typed(&points[..n + 1], n, grown_len(self.key as u16, n));
-        if let Some(answer) = compose_plain(raw, &raw[..body.len], body.tone, Khin::No, out) {
-            return answer;
-        }
         let composer = Composer {
             raw,
             tone: body.tone,
             khin: Khin::No,
         };
+        if let Some(answer) = composer.compose_plain(&raw[..body.len], out) {
+            return answer;
+        }
         composer.compose_points(points, body.len, out)
     }
 
@@ -382,7 +357,7 @@ impl Step {
         self.compose_step(&bytes[..n + 1], points, count.0, out)
     }
 
-    // Writes what a branch makes of the stripped text, the first `n` of `bytes`.
+    // Writes what a branch makes of the stripped text, the first `n` of `bytes`. Edit is what the definition names, and so no step passed in.
     fn finish(
         self,
         edit: Edit,
@@ -410,7 +385,7 @@ impl Step {
     }
 }
 
-// Copies `text` to the front of `bytes`, if it is ASCII, and says whether it is.
+// Copies `text` to the front of `bytes`, if it is ASCII, and says whether it is. The function of this name in khiin_records is another crate's.
 fn copy_ascii(text: &[u8], bytes: &mut [u8]) -> bool
     requires { length text.now ≤ length bytes.old }
     ensures { result ≡ true → (all_ascii text.now ≡ true) × (take (length text.now) bytes.new ≡ text.now) }

@@ -1,29 +1,28 @@
 // `compose`: the text of a syllable. The body is spelled by the rules, in place, the tone mark put to the tone letter, and the whole written in
 // compose's encoding. Most bodies have one pair of vowels at most, and a sign at their end only: for these each rule is one look.
-ghost use Rattle.std.specs.Prelude.{◌≡◌, true, false, ◌&&◌, List, [], ◌∷◌, ◌++◌, ℕ, ◌+◌, ◌-◌, ◌*◌, ◌/◌, ◌≤◌, ◌<◌, length, take, drop, get_or, MatchOption};
+ghost use Rattle.std.specs.Prelude.{◌≡◌, true, false, ◌&&◌, List, [], ◌∷◌, ◌++◌, ℕ, ◌+◌, ◌-◌, ◌*◌, ◌/◌, ◌≤◌, ◌<◌, length, take, drop, get_or, MatchOption, IsSome};
 ghost use Rattle.ji.specs.Unicode.{unicode16, listed};
-ghost use Rattle.ji.specs.Text.{points as points_of, marked, begins, replace_all};
+ghost use Rattle.ji.specs.Text.{points as points_of, marked, begins, replace_all, all_ascii};
 ghost use Rattle.ji.specs.Utf8.{encode};
 ghost use Rattle.ji.specs.Written.{Written};
 ghost use Rattle.ji.specs.Reply.{placed, text_reply, good, check_text};
 ghost use Rattle.ji.specs.Lomaji.Keys.{respell};
-ghost use Rattle.khiin.specs.Syllable.{vowel_rules, nasal_rules, o_rules, ends_nasal, nasalised, moved, spelled, khin_text, compose, compose_of, compose_call};
-ghost use Rattle.khiin.specs.Compose.{Front, is_pair, takes_dot, NoPairIn, NoNasalBefore, NoSignBefore, settled_body, SettledAs, DotAt};
+ghost use Rattle.khiin.specs.Syllable.{vowel_rules, nasal_rules, o_rules, ends_nasal, nasalised, moved, spelled, khin_text, mark_of, composed_with, compose, compose_of, compose_call};
+ghost use Rattle.khiin.specs.Compose.{Front, is_pair, takes_dot, NoPairIn, NoNasalBefore, NoSignBefore, settled_body, SettledAs, DotAt, QuickAs};
 
-use crate::syllable::letters::{is_first, is_second};
-use crate::syllable::marking::{insert_mark, place_spelled};
-use crate::syllable::plain::compose_plain;
+use crate::syllable::letters::{
+    A, CAPITAL_E, CAPITAL_H, CAPITAL_N, CAPITAL_O, CAPITAL_SIGN, CAPITAL_U, DOT, DOTS, E, H,
+    HYPHEN, I, K, M, N, O, P, SMALL_SIGN, T, U, is_first, is_second,
+};
+use crate::syllable::marking::{insert_mark, mark_of, place_marked, place_unmarked};
+use crate::syllable::plain::{is_plain, place_joined};
 use ji::lomaji::khin::Khin;
+use ji::lomaji::tone_letter::{ascii_tone_position, tone_position};
 use ji::reply::Refusal;
 use ji::text::{lower, replace_pair};
 use ji::tone::Tone;
-use ji::unicode;
 use ji::unicode::ByteLen;
-
-// The signs of a nasal vowel, small and capital. No code point of the table below the first of them is one.
-const SMALL_SIGN: u16 = 0x207F;
-
-const CAPITAL_SIGN: u16 = 0x1D3A;
+use ji::{reply, unicode};
 
 // The code point at `i`, and 0 past the end, which no rule has.
 fn at(s: &[u16], i: usize) -> u16
@@ -61,42 +60,42 @@ fn is_alone(s: &[u16], at: usize) -> bool
     next_pair(s, at + 1).is_none() && (at == 0 || !is_first(s[at - 1]))
 }
 
-// Replaces the pair at `at`: the vowel behind o gives way to U+0358; that behind e takes its place, with U+0324. 4F is O, 6F is o.
+// Replaces the pair at `at`: the vowel behind o gives way to U+0358; that behind e takes its place, with U+0324.
 fn respell_one(s: &mut [u16], at: usize)
     requires { (at + 1 < length s.old) × (is_pair (drop at s.old) ≡ true) × NoPairIn 0 at s.old × NoPairIn (at + 1) (length s.old) s.old × (0 < at → listed (points_of "oOeE") (get_or s.old (at - 1) 0) ≡ false) }
     ensures { s.new ≡ respell vowel_rules s.old }
 {
     match s[at] {
-        0x4F | 0x6F => {
-            s[at + 1] = 0x358;
+        CAPITAL_O | O => {
+            s[at + 1] = DOT;
         }
         _ => {
             s[at] = s[at + 1];
-            s[at + 1] = 0x324;
+            s[at + 1] = DOTS;
         }
     }
 }
 
-// The sixteen vowel rules, in place: they keep the length. By number: 45 E, 4F O, 55 U, 65 e, 6F o, 75 u.
+// The sixteen vowel rules, in place: they keep the length. A table of them with a walk is no plainer: these lines are it.
 fn respell_each(s: &mut [u16])
     ensures { s.new ≡ respell vowel_rules s.old }
 {
-    replace_pair(s, 0x6F, 0x75, 0x6F, 0x358);
-    replace_pair(s, 0x6F, 0x55, 0x6F, 0x358);
-    replace_pair(s, 0x4F, 0x75, 0x4F, 0x358);
-    replace_pair(s, 0x4F, 0x55, 0x4F, 0x358);
-    replace_pair(s, 0x6F, 0x6F, 0x6F, 0x358);
-    replace_pair(s, 0x6F, 0x4F, 0x6F, 0x358);
-    replace_pair(s, 0x4F, 0x6F, 0x4F, 0x358);
-    replace_pair(s, 0x4F, 0x4F, 0x4F, 0x358);
-    replace_pair(s, 0x65, 0x6F, 0x6F, 0x324);
-    replace_pair(s, 0x45, 0x6F, 0x6F, 0x324);
-    replace_pair(s, 0x65, 0x4F, 0x4F, 0x324);
-    replace_pair(s, 0x45, 0x4F, 0x4F, 0x324);
-    replace_pair(s, 0x65, 0x75, 0x75, 0x324);
-    replace_pair(s, 0x45, 0x75, 0x75, 0x324);
-    replace_pair(s, 0x65, 0x55, 0x55, 0x324);
-    replace_pair(s, 0x45, 0x55, 0x55, 0x324);
+    replace_pair(s, O, U, O, DOT);
+    replace_pair(s, O, CAPITAL_U, O, DOT);
+    replace_pair(s, CAPITAL_O, U, CAPITAL_O, DOT);
+    replace_pair(s, CAPITAL_O, CAPITAL_U, CAPITAL_O, DOT);
+    replace_pair(s, O, O, O, DOT);
+    replace_pair(s, O, CAPITAL_O, O, DOT);
+    replace_pair(s, CAPITAL_O, O, CAPITAL_O, DOT);
+    replace_pair(s, CAPITAL_O, CAPITAL_O, CAPITAL_O, DOT);
+    replace_pair(s, E, O, O, DOTS);
+    replace_pair(s, CAPITAL_E, O, O, DOTS);
+    replace_pair(s, E, CAPITAL_O, CAPITAL_O, DOTS);
+    replace_pair(s, CAPITAL_E, CAPITAL_O, CAPITAL_O, DOTS);
+    replace_pair(s, E, U, U, DOTS);
+    replace_pair(s, CAPITAL_E, U, U, DOTS);
+    replace_pair(s, E, CAPITAL_U, CAPITAL_U, DOTS);
+    replace_pair(s, CAPITAL_E, CAPITAL_U, CAPITAL_U, DOTS);
 }
 
 // The same, where one of them has something to do.
@@ -116,10 +115,7 @@ fn respell_vowels(s: &mut [u16])
 fn takes_nasal(c: u16) -> bool
     ensures { result ≡ listed (marked "aeiouptkhm" 0x0358) c }
 {
-    matches!(
-        c,
-        0x61 | 0x65 | 0x68 | 0x69 | 0x6B | 0x6D | 0x6F | 0x70 | 0x74 | 0x75 | 0x0358
-    )
+    matches!(c, A | E | H | I | K | M | O | P | T | U | DOT)
 }
 
 // Whether the text ends in such a letter and nn.
@@ -127,7 +123,7 @@ fn ends_nasal(s: &[u16]) -> bool
     ensures { result ≡ ends_nasal s.now }
 {
     let n = s.len();
-    2 < n && lower(s[n - 1]) == 0x6E && lower(s[n - 2]) == 0x6E && takes_nasal(lower(s[n - 3]))
+    2 < n && lower(s[n - 1]) == N && lower(s[n - 2]) == N && takes_nasal(lower(s[n - 3]))
 }
 
 // Replaces each `a` `b` by `c`, in place, and returns how many code points are left. The walk goes on by one or by two, which no `for` does.
@@ -150,7 +146,8 @@ fn shrink_pair(s: &mut [u16], a: u16, b: u16, c: u16) -> usize
     n
 }
 
-// Takes each `c` out, in place, and returns how many code points are left.
+// Takes each `c` out, in place, and returns how many code points are left: the places are counted, since those that are read and written are of one
+// slice. `shrink_pair` reads two code points and writes one: one function for both would have a case for each at every step.
 fn take_out(s: &mut [u16], c: u16) -> usize
     ensures { Written s.old s.new result (replace_all (c ∷ []) [] s.old) }
 {
@@ -164,35 +161,35 @@ fn take_out(s: &mut [u16], c: u16) -> usize
     n
 }
 
-// The four nasal rules, in place. By number: 4E N, 6E n.
+// The four nasal rules, in place.
 fn respell_nasals(s: &mut [u16]) -> usize
     ensures { Front s.new result (respell nasal_rules s.old) }
 {
-    let n = shrink_pair(s, 0x6E, 0x6E, SMALL_SIGN);
-    let m = shrink_pair(&mut s[..n], 0x6E, 0x4E, SMALL_SIGN);
-    let k = shrink_pair(&mut s[..m], 0x4E, 0x6E, SMALL_SIGN);
-    shrink_pair(&mut s[..k], 0x4E, 0x4E, CAPITAL_SIGN)
+    let n = shrink_pair(s, N, N, SMALL_SIGN);
+    let m = shrink_pair(&mut s[..n], N, CAPITAL_N, SMALL_SIGN);
+    let k = shrink_pair(&mut s[..m], CAPITAL_N, N, SMALL_SIGN);
+    shrink_pair(&mut s[..k], CAPITAL_N, CAPITAL_N, CAPITAL_SIGN)
 }
 
-// Whether nn, case ignored, stands anywhere in `s` but at its end.
+// Whether nn, case ignored, stands anywhere in `s` but at its end. `windows(2)` over all but the last is no plainer: it has a case for the empty text.
 fn has_nasal(s: &[u16]) -> bool
     ensures { result ≡ false → NoNasalBefore s.now }
 {
     for i in 2..s.len() {
-        if lower(s[i - 2]) == 0x6E && lower(s[i - 1]) == 0x6E {
+        if lower(s[i - 2]) == N && lower(s[i - 1]) == N {
             return true;
         }
     }
     false
 }
 
-// The nasal rules where nn stands at the end only: the sign takes its place. 4E is N.
+// The nasal rules where nn stands at the end only: the sign takes its place.
 fn end_in_sign(s: &mut [u16]) -> usize
     requires { (ends_nasal s.old ≡ true) × NoNasalBefore s.old }
     ensures { Front s.new result (respell nasal_rules s.old) }
 {
     let n = s.len();
-    let sign = if s[n - 1] == 0x4E && s[n - 2] == 0x4E {
+    let sign = if s[n - 1] == CAPITAL_N && s[n - 2] == CAPITAL_N {
         CAPITAL_SIGN
     } else {
         SMALL_SIGN
@@ -205,13 +202,13 @@ fn end_in_sign(s: &mut [u16]) -> usize
 fn nasalise(s: &mut [u16]) -> usize
     ensures { Front s.new result (nasalised s.old) }
 {
-    if ends_nasal(s) {
-        if has_nasal(s) {
-            return respell_nasals(s);
-        }
-        return end_in_sign(s);
+    if !ends_nasal(s) {
+        s.len()
+    } else if has_nasal(s) {
+        respell_nasals(s)
+    } else {
+        end_in_sign(s)
     }
-    s.len()
 }
 
 // Whether a sign, or what stands above the signs in the table, stands before the end of `s`.
@@ -232,9 +229,10 @@ fn move_sign(s: &mut [u16], sign: u16) -> usize
     let n = take_out(s, sign);
     if n < len {
         s[n] = sign;
-        return n + 1;
+        n + 1
+    } else {
+        n
     }
-    n
 }
 
 // A text at the front of a buffer: how many code points it has, and whether none before its end is a sign. The buffer is no field, since a struct
@@ -252,11 +250,12 @@ fn move_signs(s: &mut [u16]) -> Settled
     if has_sign(s) {
         let n = move_sign(s, SMALL_SIGN);
         let len = move_sign(&mut s[..n], CAPITAL_SIGN);
-        return Settled { len, lone: false };
-    }
-    Settled {
-        len: s.len(),
-        lone: true,
+        Settled { len, lone: false }
+    } else {
+        Settled {
+            len: s.len(),
+            lone: true,
+        }
     }
 }
 
@@ -269,15 +268,15 @@ fn settle(s: &mut [u16]) -> Settled
     move_signs(&mut s[..n])
 }
 
-// Whether U+0358 goes behind the code point at `i`, by one of the O rules. By number: 48 H, 4F O, 68 h, 6F o.
+// Whether U+0358 goes behind the code point at `i`, by one of the O rules.
 fn takes_dot(s: &[u16], i: usize) -> bool
     requires { i < length s.now }
     ensures { result ≡ takes_dot (drop i s.now) }
 {
     match (s[i], at(s, i + 1)) {
-        (0x4F, CAPITAL_SIGN | SMALL_SIGN) | (0x6F, SMALL_SIGN) => true,
-        (0x4F, 0x48) => at(s, i + 2) == CAPITAL_SIGN,
-        (0x4F | 0x6F, 0x68) => at(s, i + 2) == SMALL_SIGN,
+        (CAPITAL_O, CAPITAL_SIGN | SMALL_SIGN) | (O, SMALL_SIGN) => true,
+        (CAPITAL_O, CAPITAL_H) => at(s, i + 2) == CAPITAL_SIGN,
+        (CAPITAL_O | O, H) => at(s, i + 2) == SMALL_SIGN,
         _ => false,
     }
 }
@@ -292,7 +291,7 @@ fn write_dotted(s: &[u16], out: &mut [u16]) -> usize
         out[n] = s[i];
         n += 1;
         if takes_dot(s, i) {
-            out[n] = 0x0358;
+            out[n] = DOT;
             n += 1;
         }
     }
@@ -307,8 +306,8 @@ fn lead(khin: Khin, out: &mut [u16]) -> usize
     match khin {
         Khin::No => 0,
         Khin::Yes => {
-            out[0] = 0x2D;
-            out[1] = 0x2D;
+            out[0] = HYPHEN;
+            out[1] = HYPHEN;
             2
         }
     }
@@ -339,7 +338,7 @@ fn put_dot(s: &mut [u16], n: usize) -> usize
     match dot_place(&s[..n]) {
         None => n,
         Some(at) => {
-            insert_mark(&mut s[..n + 1], at, 0x0358);
+            insert_mark(&mut s[..n + 1], at, DOT);
             n + 1
         }
     }
@@ -363,6 +362,45 @@ pub(crate) struct Composer<'a> {
 }
 
 impl Composer<'_> {
+    // Writes the text that `s`, as it is spelled, has with the mark of the tone; or the raw input, where there is no letter for it.
+    fn place_plain(self, s: &[u8], out: &mut [u8]) -> Option<Result<ByteLen, Refusal>>
+        requires { all_ascii s.now ≡ true }
+        ensures { (raw_input : List ℕ) → self.entry.raw.now ≡ encode raw_input → QuickAs result out.old out.new (placed 0 (encode (composed_with unicode16 raw_input s.now (mark_of self.entry.tone))) out.old) }
+    {
+        let Some(mark) = mark_of(self.tone) else {
+            return Some(reply::place_bytes(s, out));
+        };
+        match ascii_tone_position(s) {
+            None => Some(reply::place_bytes(self.raw, out)),
+            Some(place) => place_joined(s, place.0, mark, out),
+        }
+    }
+
+    // Composes the body `s`, if it is plain and has no khin. None where it is not, and nothing is written.
+    pub(crate) fn compose_plain(self, s: &[u8], out: &mut [u8]) -> Option<Result<ByteLen, Refusal>>
+        ensures { (IsSome result → all_ascii s.now ≡ true) × ((raw_input : List ℕ) → self.entry.raw.now ≡ encode raw_input → QuickAs result out.old out.new (placed 0 (encode (compose unicode16 raw_input s.now self.entry.tone self.entry.khin)) out.old)) }
+    {
+        match self.khin {
+            Khin::No if is_plain(s) => self.place_plain(s, out),
+            _ => None,
+        }
+    }
+
+    // Writes the text that the first `n` code points of `s`, a spelled text, have with the mark of the tone; or the raw input, where there is no
+    // letter for it.
+    fn place_spelled(self, s: &mut [u16], n: usize, out: &mut [u8]) -> Result<ByteLen, Refusal>
+        requires { (n < length s.old) × (n ≤ 802) }
+        ensures { (raw_input : List ℕ) → self.entry.raw.now ≡ encode raw_input → text_reply result out.new ≡ placed 0 (encode (composed_with unicode16 raw_input (take n s.old) (mark_of self.entry.tone))) out.old }
+    {
+        let Some(mark) = mark_of(self.tone) else {
+            return place_unmarked(&s[..n], out);
+        };
+        match tone_position(&s[..n]) {
+            None => reply::place_bytes(self.raw, out),
+            Some(place) => place_marked(s, n, place.0, mark, out),
+        }
+    }
+
     // Writes the text of a body that is spelled but for the O rules, from a buffer with room for these and for khin.
     fn place_dotted(self, s: &[u16], out: &mut [u8]) -> Result<ByteLen, Refusal>
         requires { length s.now ≤ 400 }
@@ -370,7 +408,7 @@ impl Composer<'_> {
     {
         let mut b = [0u16; 803];
         let n = write_whole(self.khin, s, &mut b);
-        place_spelled(self.raw, &mut b, n, self.tone, out)
+        self.place_spelled(&mut b, n, out)
     }
 
     // The same in the buffer `s`, of which the text takes the first `n` places, where it has no khin and no sign before its end.
@@ -387,7 +425,7 @@ impl Composer<'_> {
         match self.khin {
             Khin::No if settled.lone => {
                 let m = put_dot(s, n);
-                place_spelled(self.raw, s, m, self.tone, out)
+                self.place_spelled(s, m, out)
             }
             _ => self.place_dotted(&s[..n], out),
         }
@@ -436,13 +474,14 @@ impl Composer<'_> {
         requires { length body.now ≤ 256 }
         ensures { (raw_input : List ℕ) → self.entry.raw.now ≡ encode raw_input → text_reply result out.new ≡ compose_of unicode16 self.entry.tone self.entry.khin (good raw_input) (check_text unicode16 body.now) out.old }
     {
-        if let Some(answer) = compose_plain(self.raw, body, self.tone, self.khin, out) {
+        if let Some(answer) = self.compose_plain(body, out) {
             return answer;
         }
         if body.len() <= 16 {
-            return self.compose_in::<18>(body, out);
+            self.compose_in::<18>(body, out)
+        } else {
+            self.compose_in::<258>(body, out)
         }
-        self.compose_in::<258>(body, out)
     }
 }
 

@@ -8,6 +8,10 @@ ghost use Rattle.ji.specs.Reply.{placed, text_reply};
 ghost use Rattle.khiin.specs.Syllable.{mark_of, encoded, composed_with};
 ghost use Rattle.khiin.specs.Compose.{Front, mark_text, stays_behind, settled_from, JoinedAs, JoinedIn, inserted};
 
+use crate::syllable::letters::{
+    A, CAPITAL_A, CAPITAL_E, CAPITAL_I, CAPITAL_M, CAPITAL_N, CAPITAL_O, CAPITAL_SIGN, CAPITAL_U,
+    DOT, DOTS, E, I, M, N, O, SMALL_SIGN, U,
+};
 use ji::lomaji::tone_letter::tone_position;
 use ji::nfc::place_exchanged;
 use ji::reply;
@@ -32,6 +36,7 @@ pub(crate) fn mark_of(tone: Tone) -> Option<u16>
 }
 
 // What a letter and a tone mark behind it make, as far as it is known here: one code point, which has two bytes in UTF-8; or they stay apart.
+// Unknown is no None: an Option would wrap each line of the seven tables in Some, and `join` is matched by all three.
 #[derive(Clone, Copy, PartialEq, Eq)]
 pub(crate) enum Joined {
     Composite(u16),
@@ -44,20 +49,20 @@ fn grave(x: u16) -> Joined
     ensures { JoinedAs x 0x0300 result }
 {
     match x {
-        0x41 => Joined::Composite(0xC0), // À
-        0x45 => Joined::Composite(0xC8), // È
-        0x49 => Joined::Composite(0xCC), // Ì
-        0x4D => Joined::Apart,
-        0x4E => Joined::Composite(0x1F8), // Ǹ
-        0x4F => Joined::Composite(0xD2), // Ò
-        0x55 => Joined::Composite(0xD9), // Ù
-        0x61 => Joined::Composite(0xE0), // à
-        0x65 => Joined::Composite(0xE8), // è
-        0x69 => Joined::Composite(0xEC), // ì
-        0x6D => Joined::Apart,
-        0x6E => Joined::Composite(0x1F9), // ǹ
-        0x6F => Joined::Composite(0xF2), // ò
-        0x75 => Joined::Composite(0xF9), // ù
+        CAPITAL_A => Joined::Composite(0xC0), // À
+        CAPITAL_E => Joined::Composite(0xC8), // È
+        CAPITAL_I => Joined::Composite(0xCC), // Ì
+        CAPITAL_M => Joined::Apart,
+        CAPITAL_N => Joined::Composite(0x1F8), // Ǹ
+        CAPITAL_O => Joined::Composite(0xD2), // Ò
+        CAPITAL_U => Joined::Composite(0xD9), // Ù
+        A => Joined::Composite(0xE0), // à
+        E => Joined::Composite(0xE8), // è
+        I => Joined::Composite(0xEC), // ì
+        M => Joined::Apart,
+        N => Joined::Composite(0x1F9), // ǹ
+        O => Joined::Composite(0xF2), // ò
+        U => Joined::Composite(0xF9), // ù
         _ => Joined::Unknown,
     }
 }
@@ -66,18 +71,18 @@ fn acute(x: u16) -> Joined
     ensures { JoinedAs x 0x0301 result }
 {
     match x {
-        0x41 => Joined::Composite(0xC1), // Á
-        0x45 => Joined::Composite(0xC9), // É
-        0x49 => Joined::Composite(0xCD), // Í
-        0x4E => Joined::Composite(0x143), // Ń
-        0x4F => Joined::Composite(0xD3), // Ó
-        0x55 => Joined::Composite(0xDA), // Ú
-        0x61 => Joined::Composite(0xE1), // á
-        0x65 => Joined::Composite(0xE9), // é
-        0x69 => Joined::Composite(0xED), // í
-        0x6E => Joined::Composite(0x144), // ń
-        0x6F => Joined::Composite(0xF3), // ó
-        0x75 => Joined::Composite(0xFA), // ú
+        CAPITAL_A => Joined::Composite(0xC1), // Á
+        CAPITAL_E => Joined::Composite(0xC9), // É
+        CAPITAL_I => Joined::Composite(0xCD), // Í
+        CAPITAL_N => Joined::Composite(0x143), // Ń
+        CAPITAL_O => Joined::Composite(0xD3), // Ó
+        CAPITAL_U => Joined::Composite(0xDA), // Ú
+        A => Joined::Composite(0xE1), // á
+        E => Joined::Composite(0xE9), // é
+        I => Joined::Composite(0xED), // í
+        N => Joined::Composite(0x144), // ń
+        O => Joined::Composite(0xF3), // ó
+        U => Joined::Composite(0xFA), // ú
         _ => Joined::Unknown,
     }
 }
@@ -86,20 +91,20 @@ fn circumflex(x: u16) -> Joined
     ensures { JoinedAs x 0x0302 result }
 {
     match x {
-        0x41 => Joined::Composite(0xC2), // Â
-        0x45 => Joined::Composite(0xCA), // Ê
-        0x49 => Joined::Composite(0xCE), // Î
-        0x4D => Joined::Apart,
-        0x4E => Joined::Apart,
-        0x4F => Joined::Composite(0xD4), // Ô
-        0x55 => Joined::Composite(0xDB), // Û
-        0x61 => Joined::Composite(0xE2), // â
-        0x65 => Joined::Composite(0xEA), // ê
-        0x69 => Joined::Composite(0xEE), // î
-        0x6D => Joined::Apart,
-        0x6E => Joined::Apart,
-        0x6F => Joined::Composite(0xF4), // ô
-        0x75 => Joined::Composite(0xFB), // û
+        CAPITAL_A => Joined::Composite(0xC2), // Â
+        CAPITAL_E => Joined::Composite(0xCA), // Ê
+        CAPITAL_I => Joined::Composite(0xCE), // Î
+        CAPITAL_M => Joined::Apart,
+        CAPITAL_N => Joined::Apart,
+        CAPITAL_O => Joined::Composite(0xD4), // Ô
+        CAPITAL_U => Joined::Composite(0xDB), // Û
+        A => Joined::Composite(0xE2), // â
+        E => Joined::Composite(0xEA), // ê
+        I => Joined::Composite(0xEE), // î
+        M => Joined::Apart,
+        N => Joined::Apart,
+        O => Joined::Composite(0xF4), // ô
+        U => Joined::Composite(0xFB), // û
         _ => Joined::Unknown,
     }
 }
@@ -108,18 +113,18 @@ fn tilde(x: u16) -> Joined
     ensures { JoinedAs x 0x0303 result }
 {
     match x {
-        0x41 => Joined::Composite(0xC3), // Ã
-        0x49 => Joined::Composite(0x128), // Ĩ
-        0x4D => Joined::Apart,
-        0x4E => Joined::Composite(0xD1), // Ñ
-        0x4F => Joined::Composite(0xD5), // Õ
-        0x55 => Joined::Composite(0x168), // Ũ
-        0x61 => Joined::Composite(0xE3), // ã
-        0x69 => Joined::Composite(0x129), // ĩ
-        0x6D => Joined::Apart,
-        0x6E => Joined::Composite(0xF1), // ñ
-        0x6F => Joined::Composite(0xF5), // õ
-        0x75 => Joined::Composite(0x169), // ũ
+        CAPITAL_A => Joined::Composite(0xC3), // Ã
+        CAPITAL_I => Joined::Composite(0x128), // Ĩ
+        CAPITAL_M => Joined::Apart,
+        CAPITAL_N => Joined::Composite(0xD1), // Ñ
+        CAPITAL_O => Joined::Composite(0xD5), // Õ
+        CAPITAL_U => Joined::Composite(0x168), // Ũ
+        A => Joined::Composite(0xE3), // ã
+        I => Joined::Composite(0x129), // ĩ
+        M => Joined::Apart,
+        N => Joined::Composite(0xF1), // ñ
+        O => Joined::Composite(0xF5), // õ
+        U => Joined::Composite(0x169), // ũ
         _ => Joined::Unknown,
     }
 }
@@ -128,20 +133,20 @@ fn macron(x: u16) -> Joined
     ensures { JoinedAs x 0x0304 result }
 {
     match x {
-        0x41 => Joined::Composite(0x100), // Ā
-        0x45 => Joined::Composite(0x112), // Ē
-        0x49 => Joined::Composite(0x12A), // Ī
-        0x4D => Joined::Apart,
-        0x4E => Joined::Apart,
-        0x4F => Joined::Composite(0x14C), // Ō
-        0x55 => Joined::Composite(0x16A), // Ū
-        0x61 => Joined::Composite(0x101), // ā
-        0x65 => Joined::Composite(0x113), // ē
-        0x69 => Joined::Composite(0x12B), // ī
-        0x6D => Joined::Apart,
-        0x6E => Joined::Apart,
-        0x6F => Joined::Composite(0x14D), // ō
-        0x75 => Joined::Composite(0x16B), // ū
+        CAPITAL_A => Joined::Composite(0x100), // Ā
+        CAPITAL_E => Joined::Composite(0x112), // Ē
+        CAPITAL_I => Joined::Composite(0x12A), // Ī
+        CAPITAL_M => Joined::Apart,
+        CAPITAL_N => Joined::Apart,
+        CAPITAL_O => Joined::Composite(0x14C), // Ō
+        CAPITAL_U => Joined::Composite(0x16A), // Ū
+        A => Joined::Composite(0x101), // ā
+        E => Joined::Composite(0x113), // ē
+        I => Joined::Composite(0x12B), // ī
+        M => Joined::Apart,
+        N => Joined::Apart,
+        O => Joined::Composite(0x14D), // ō
+        U => Joined::Composite(0x16B), // ū
         _ => Joined::Unknown,
     }
 }
@@ -150,20 +155,20 @@ fn breve(x: u16) -> Joined
     ensures { JoinedAs x 0x0306 result }
 {
     match x {
-        0x41 => Joined::Composite(0x102), // Ă
-        0x45 => Joined::Composite(0x114), // Ĕ
-        0x49 => Joined::Composite(0x12C), // Ĭ
-        0x4D => Joined::Apart,
-        0x4E => Joined::Apart,
-        0x4F => Joined::Composite(0x14E), // Ŏ
-        0x55 => Joined::Composite(0x16C), // Ŭ
-        0x61 => Joined::Composite(0x103), // ă
-        0x65 => Joined::Composite(0x115), // ĕ
-        0x69 => Joined::Composite(0x12D), // ĭ
-        0x6D => Joined::Apart,
-        0x6E => Joined::Apart,
-        0x6F => Joined::Composite(0x14F), // ŏ
-        0x75 => Joined::Composite(0x16D), // ŭ
+        CAPITAL_A => Joined::Composite(0x102), // Ă
+        CAPITAL_E => Joined::Composite(0x114), // Ĕ
+        CAPITAL_I => Joined::Composite(0x12C), // Ĭ
+        CAPITAL_M => Joined::Apart,
+        CAPITAL_N => Joined::Apart,
+        CAPITAL_O => Joined::Composite(0x14E), // Ŏ
+        CAPITAL_U => Joined::Composite(0x16C), // Ŭ
+        A => Joined::Composite(0x103), // ă
+        E => Joined::Composite(0x115), // ĕ
+        I => Joined::Composite(0x12D), // ĭ
+        M => Joined::Apart,
+        N => Joined::Apart,
+        O => Joined::Composite(0x14F), // ŏ
+        U => Joined::Composite(0x16D), // ŭ
         _ => Joined::Unknown,
     }
 }
@@ -199,7 +204,7 @@ pub(crate) fn join(x: u16, mark: u16) -> Joined
 fn is_o(x: u16) -> bool
     ensures { result ≡ listed (points_of "oO") x }
 {
-    matches!(x, 0x4F | 0x6F)
+    matches!(x, CAPITAL_O | O)
 }
 
 // Whether `x` stays as it is behind `before`.
@@ -208,13 +213,14 @@ fn stays_behind(before: u16, x: u16) -> bool
 {
     match x {
         0..0xC0 => true,
-        0x0324 => is_o(before),
-        0x0358 | 0x1D3A | 0x207F => true,
+        DOTS => is_o(before),
+        DOT | CAPITAL_SIGN | SMALL_SIGN => true,
         _ => false,
     }
 }
 
 // Whether `s` needs no normalising, nor will with a tone mark behind one of its letters.
+// `windows(2)` would leave out the first code point, which has none before it.
 fn is_settled(s: &[u16]) -> bool
     ensures { result ≡ true → settled_from 0 s.now ≡ true }
 {
@@ -242,18 +248,19 @@ fn place_encoded(s: &[u16], out: &mut [u8]) -> Result<ByteLen, Refusal>
     requires { length s.now ≤ 803 }
     ensures { text_reply result out.new ≡ placed 0 (encode (encoded unicode16 s.now)) out.old }
 {
-    place_exchanged(s, 0x0324, 0x030D, out)
+    place_exchanged(s, DOTS, 0x030D, out)
 }
 
 // Writes `s` in compose's encoding, without a mark.
-fn place_unmarked(s: &[u16], out: &mut [u8]) -> Result<ByteLen, Refusal>
+pub(crate) fn place_unmarked(s: &[u16], out: &mut [u8]) -> Result<ByteLen, Refusal>
     requires { length s.now ≤ 803 }
     ensures { text_reply result out.new ≡ placed 0 (encode (encoded unicode16 s.now)) out.old }
 {
     if is_settled(s) {
-        return reply::place(s, out);
+        reply::place(s, out)
+    } else {
+        place_encoded(s, out)
     }
-    place_encoded(s, out)
 }
 
 // What `join` says of the letter at `k` and the mark where the text is settled.
@@ -262,13 +269,14 @@ fn joined_at(s: &[u16], k: usize, mark: u16) -> Joined
     ensures { JoinedIn s.now k mark result }
 {
     if is_settled(s) {
-        return join(s[k], mark);
+        join(s[k], mark)
+    } else {
+        Joined::Unknown
     }
-    Joined::Unknown
 }
 
 // Writes the first `n` code points of `s` with `mark` behind the letter at `k`.
-fn place_marked(
+pub(crate) fn place_marked(
     s: &mut [u16],
     n: usize,
     k: usize,
@@ -284,29 +292,8 @@ fn place_marked(
         return reply::place(&s[..n], out);
     }
     insert_mark(&mut s[..n + 1], k + 1, mark);
-    if mark == 0x030D && matches!(joined, Joined::Apart) {
+    if mark == 0x030D && joined == Joined::Apart {
         return reply::place(&s[..n + 1], out);
     }
     place_encoded(&s[..n + 1], out)
-}
-
-// Writes the text that the first `n` code points of `s`, a spelled text, have with the mark of the tone; or the raw input, where there is no
-// letter for it.
-pub(crate) fn place_spelled(
-    raw: &[u8],
-    s: &mut [u16],
-    n: usize,
-    tone: Tone,
-    out: &mut [u8],
-) -> Result<ByteLen, Refusal>
-    requires { (n < length s.old) × (n ≤ 802) }
-    ensures { (raw_input : List ℕ) → raw.now ≡ encode raw_input → text_reply result out.new ≡ placed 0 (encode (composed_with unicode16 raw_input (take n s.old) (mark_of tone))) out.old }
-{
-    match mark_of(tone) {
-        None => place_unmarked(&s[..n], out),
-        Some(mark) => match tone_position(&s[..n]) {
-            None => reply::place_bytes(raw, out),
-            Some(place) => place_marked(s, n, place.0, mark, out),
-        },
-    }
 }

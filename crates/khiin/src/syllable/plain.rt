@@ -1,40 +1,37 @@
 // The quick way of `compose`, for an ASCII body that no rule changes and that has no khin, as most have: its bytes are written as they stand, with one
 // letter and its mark among them. A function here answers None, and writes nothing, where this way does not go.
-ghost use Rattle.std.specs.Prelude.{◌≡◌, true, false, ◌&&◌, List, ◌∷◌, ◌++◌, ℕ, ◌+◌, ◌<◌, length, take, drop, IsSome};
+ghost use Rattle.std.specs.Prelude.{◌≡◌, true, false, ◌&&◌, ◌∷◌, ◌++◌, ◌+◌, ◌<◌, length, take, drop};
 ghost use Rattle.ji.specs.Unicode.{unicode16, listed};
 ghost use Rattle.ji.specs.Text.{points as points_of, all_ascii};
 ghost use Rattle.ji.specs.Utf8.{encode};
 ghost use Rattle.ji.specs.Reply.{placed};
-ghost use Rattle.khiin.specs.Syllable.{ends_nasal, mark_of, encoded, composed_with, compose};
+ghost use Rattle.khiin.specs.Syllable.{ends_nasal, encoded};
 ghost use Rattle.khiin.specs.Compose.{Plain, QuickAs};
 
-use crate::syllable::letters::{is_first, is_second};
-use crate::syllable::marking::{Joined, join, mark_of};
-use ji::lomaji::khin::Khin;
-use ji::lomaji::tone_letter::ascii_tone_position;
+use crate::syllable::letters::{N, is_first, is_second};
+use crate::syllable::marking::{Joined, join};
 use ji::reply;
 use ji::reply::Refusal;
 use ji::text::lower;
-use ji::tone::Tone;
 use ji::unicode::ByteLen;
 
-// Whether `s` ends in nn, case ignored, behind something.
+// Whether `s` ends in nn, case ignored, behind something. These are bytes, and `ends_nasal` reads code points.
 fn ends_in_nn(s: &[u8]) -> bool
     ensures { result ≡ false → ends_nasal s.now ≡ false }
 {
     let n = s.len();
-    2 < n && lower(u16::from(s[n - 1])) == 0x6E && lower(u16::from(s[n - 2])) == 0x6E
+    2 < n && lower(u16::from(s[n - 1])) == N && lower(u16::from(s[n - 2])) == N
 }
 
-// Whether `before` and `x` are a pair of vowels that is replaced.
+// Whether `before` and `x` are a pair of vowels that is replaced. These are bytes, and `is_pair` reads code points.
 fn are_pair(before: u8, x: u8) -> bool
     ensures { result ≡ (listed (points_of "oOeE") before && listed (points_of "oOuU") x) }
 {
     is_second(u16::from(x)) && is_first(u16::from(before))
 }
 
-// Whether `s` is ASCII, and no rule changes it.
-fn is_plain(s: &[u8]) -> bool
+// Whether `s` is ASCII, and no rule changes it. `windows(2)` would leave out the first byte, which has none before it.
+pub(crate) fn is_plain(s: &[u8]) -> bool
     ensures { result ≡ true → Plain s.now }
 {
     let mut before: u8 = 0;
@@ -48,7 +45,12 @@ fn is_plain(s: &[u8]) -> bool
 }
 
 // Writes `s`, with `mark` behind its letter at `k`, in compose's encoding.
-fn place_joined(s: &[u8], k: usize, mark: u16, out: &mut [u8]) -> Option<Result<ByteLen, Refusal>>
+pub(crate) fn place_joined(
+    s: &[u8],
+    k: usize,
+    mark: u16,
+    out: &mut [u8],
+) -> Option<Result<ByteLen, Refusal>>
     requires { (k < length s.now) × (all_ascii s.now ≡ true) }
     ensures { QuickAs result out.old out.new (placed 0 (encode (encoded unicode16 (take (k + 1) s.now ++ (mark ∷ drop (k + 1) s.now)))) out.old) }
 {
@@ -56,35 +58,5 @@ fn place_joined(s: &[u8], k: usize, mark: u16, out: &mut [u8]) -> Option<Result<
         Joined::Composite(c) => Some(reply::place_between(&s[..k], c, &s[k + 1..], out)),
         Joined::Apart => Some(reply::place_between(&s[..k + 1], mark, &s[k + 1..], out)),
         Joined::Unknown => None,
-    }
-}
-
-// Writes the text that `s`, as it is spelled, has with the mark of the tone; or the raw input, where there is no letter for it.
-fn place_plain(raw: &[u8], s: &[u8], tone: Tone, out: &mut [u8]) -> Option<Result<ByteLen, Refusal>>
-    requires { all_ascii s.now ≡ true }
-    ensures { (raw_input : List ℕ) → raw.now ≡ encode raw_input → QuickAs result out.old out.new (placed 0 (encode (composed_with unicode16 raw_input s.now (mark_of tone))) out.old) }
-{
-    match mark_of(tone) {
-        None => Some(reply::place_bytes(s, out)),
-        Some(mark) => match ascii_tone_position(s) {
-            None => Some(reply::place_bytes(raw, out)),
-            Some(place) => place_joined(s, place.0, mark, out),
-        },
-    }
-}
-
-// Composes the body `s`, if it is plain and has no khin.
-pub(crate) fn compose_plain(
-    raw: &[u8],
-    s: &[u8],
-    tone: Tone,
-    khin: Khin,
-    out: &mut [u8],
-) -> Option<Result<ByteLen, Refusal>>
-    ensures { (IsSome result → all_ascii s.now ≡ true) × ((raw_input : List ℕ) → raw.now ≡ encode raw_input → QuickAs result out.old out.new (placed 0 (encode (compose unicode16 raw_input s.now tone khin)) out.old)) }
-{
-    match khin {
-        Khin::No if is_plain(s) => place_plain(raw, s, tone, out),
-        _ => None,
     }
 }

@@ -8,7 +8,7 @@ use Rattle.khiin.specs.Compose.{Front}
 use Rattle.khiin.proofs.syllable.compose.Once.{nasal_three, end_capital, end_small, front_signed}
 use native.Mathlib.Omega.{arith}
 use Rattle.khiin.proofs.syllable.compose.end_in_sign.Goals as goal
-use Rattle.khiin.proofs.syllable.compose.end_in_sign.Goals.{then-s-n-eq78+then-s-n-eq78-2, else-s-n-eq78, else-s-n-eq78-via-then-s-n-eq78+else-s-n-eq78-2, else-s-n-eq78-via-else-s-n-eq78}
+use Rattle.khiin.proofs.syllable.compose.end_in_sign.Goals.{then-s-n-eq-CAPITAL_N+then-s-n-eq-CAPITAL_N-2, else-s-n-eq-CAPITAL_N, else-s-n-eq-CAPITAL_N-via-then-s-n-eq-CAPITAL_N+else-s-n-eq-CAPITAL_N-2, else-s-n-eq-CAPITAL_N-via-else-s-n-eq-CAPITAL_N}
 
 signed : (s : List ℕ) (sign : ℕ) → 3 ≤ length s → respell nasal_rules s ≡ take (length s - 2) s ++ (sign ∷ []) → Front (set s (length s - 2) sign) (length s - 1) (respell nasal_rules s)
 signed s sign h e = subst (Front (set s (length s - 2) sign) (length s - 1)) (sym e) (front_signed s sign h)
@@ -19,8 +19,8 @@ overflow_sub-n c = omega (arith, nasal_three c.args.s.now c.requires.0)
 pub bounds-s-n : goal.bounds-s-n
 bounds-s-n c = omega (arith, nasal_three c.args.s.now c.requires.0)
 
-pub overflow_sub-n-then-s-n-eq78 : goal.overflow_sub-n-then-s-n-eq78
-overflow_sub-n-then-s-n-eq78 c = omega (arith, nasal_three c.args.s.now c.requires.0)
+pub overflow_sub-n-then-s-n-eq-CAPITAL_N : goal.overflow_sub-n-then-s-n-eq-CAPITAL_N
+overflow_sub-n-then-s-n-eq-CAPITAL_N c = omega (arith, nasal_three c.args.s.now c.requires.0)
 
 pub overflow_sub-s : goal.overflow_sub-s
 overflow_sub-s c = omega (arith, nasal_three c.args.s.now c.requires.0)
@@ -35,13 +35,13 @@ pub returns : goal.returns
 returns c =
     let s = c.args.s.now in
     let three = nasal_three s c.requires.0 in
-    elim c.if-s-n-eq78.branch [
-      | then-s-n-eq78+then-s-n-eq78-2 w ↦ rw w.sign-is (signed s 0x1D3A three (end_capital s c.requires.0 c.requires.1 w.if-s-n-eq78.true w.if-s-n-eq78-2.true))
-      | else-s-n-eq78 w ↦
+    elim c.if-s-n-eq-CAPITAL_N.branch [
+      | then-s-n-eq-CAPITAL_N+then-s-n-eq-CAPITAL_N-2 w ↦ rw w.sign-is (signed s 0x1D3A three (end_capital s c.requires.0 c.requires.1 w.if-s-n-eq-CAPITAL_N.true w.if-s-n-eq-CAPITAL_N-2.true))
+      | else-s-n-eq-CAPITAL_N w ↦
           rw w.sign-is
           (signed s 0x207F three
-          (end_small s c.requires.0 c.requires.1 (λ f g. elim w.else-s-n-eq78.branch [
-            | else-s-n-eq78-via-then-s-n-eq78+else-s-n-eq78-2 v ↦ v.if-s-n-eq78-2.false g
-            | else-s-n-eq78-via-else-s-n-eq78 v ↦ v.if-s-n-eq78.false f
+          (end_small s c.requires.0 c.requires.1 (λ f g. elim w.else-s-n-eq-CAPITAL_N.branch [
+            | else-s-n-eq-CAPITAL_N-via-then-s-n-eq-CAPITAL_N+else-s-n-eq-CAPITAL_N-2 v ↦ v.if-s-n-eq-CAPITAL_N-2.false g
+            | else-s-n-eq-CAPITAL_N-via-else-s-n-eq-CAPITAL_N v ↦ v.if-s-n-eq-CAPITAL_N.false f
           ])))
     ]

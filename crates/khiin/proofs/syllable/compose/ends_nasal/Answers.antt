@@ -6,37 +6,37 @@ use Rattle.ji.proofs.Bools.{false_true}
 use Rattle.khiin.proofs.syllable.compose.Laws.{nasal_short, nasal_not_last, nasal_not_second, nasal_by_letter}
 use native.Mathlib.Omega.{arith}
 use Rattle.khiin.proofs.syllable.compose.ends_nasal.Goals as goal
-use Rattle.khiin.proofs.syllable.compose.ends_nasal.Goals.{then-n-gt2, else-n-gt2, then-lower-eq110, else-lower-eq110}
+use Rattle.khiin.proofs.syllable.compose.ends_nasal.Goals.{then-n-gt2, else-n-gt2, then-lower-eq-N, else-lower-eq-N}
 
-pub returns-then-lower-eq110-2 : goal.returns-then-lower-eq110-2
-returns-then-lower-eq110-2 c =
+pub returns-then-lower-eq-N-2 : goal.returns-then-lower-eq-N-2
+returns-then-lower-eq-N-2 c =
     let s = c.args.s.now in
-    elim c.if-lower-eq110.branch [
-      | then-lower-eq110 w ↦
+    elim c.if-lower-eq-N.branch [
+      | then-lower-eq-N w ↦
           elim c.if-n-gt2.branch [
             | then-n-gt2 v ↦
-                let second = sym w.lower-then-lower-eq110.ensures ∙ eqb-true _ _ (sym w.value-is ∙ c.if-lower-eq110-2.true) in
-                let last = sym v.lower.ensures ∙ eqb-true _ _ (sym v.value-is ∙ w.if-lower-eq110.true) in
-                c.takes_nasal.ensures ∙ ap (listed (marked "aeiouptkhm" 0x0358)) c.lower-then-lower-eq110-2.ensures ∙ sym (nasal_by_letter s (omega (arith, v.if-n-gt2.true)) second last)
-            | else-n-gt2 v ↦ absurd (omega (arith, v.if-n-gt2.false, ltb-true 2 _ (sym v.value-is ∙ w.if-lower-eq110.true)))
+                let second = sym w.lower-then-lower-eq-N.ensures ∙ eqb-true _ _ (sym w.value-is ∙ c.if-lower-eq-N-2.true) in
+                let last = sym v.lower.ensures ∙ eqb-true _ _ (sym v.value-is ∙ w.if-lower-eq-N.true) in
+                c.takes_nasal.ensures ∙ ap (listed (marked "aeiouptkhm" 0x0358)) c.lower-then-lower-eq-N-2.ensures ∙ sym (nasal_by_letter s (omega (arith, v.if-n-gt2.true)) second last)
+            | else-n-gt2 v ↦ absurd (omega (arith, v.if-n-gt2.false, ltb-true 2 _ (sym v.value-is ∙ w.if-lower-eq-N.true)))
           ]
-      | else-lower-eq110 w ↦ absurd (false_true (sym (w.value-is ∙ w.if-lower-eq110.false) ∙ c.if-lower-eq110-2.true))
+      | else-lower-eq-N w ↦ absurd (false_true (sym (w.value-is ∙ w.if-lower-eq-N.false) ∙ c.if-lower-eq-N-2.true))
     ]
 
-pub returns-else-lower-eq110-2 : goal.returns-else-lower-eq110-2
-returns-else-lower-eq110-2 c =
+pub returns-else-lower-eq-N-2 : goal.returns-else-lower-eq-N-2
+returns-else-lower-eq-N-2 c =
     let s = c.args.s.now in
-    c.if-lower-eq110-2.false
+    c.if-lower-eq-N-2.false
     ∙ sym
-    (elim c.if-lower-eq110.branch [
-      | then-lower-eq110 w ↦
+    (elim c.if-lower-eq-N.branch [
+      | then-lower-eq-N w ↦
           elim c.if-n-gt2.branch [
-            | then-n-gt2 v ↦ nasal_not_second s (omega (arith, v.if-n-gt2.true)) (λ z. eqb-false _ _ (sym w.value-is ∙ c.if-lower-eq110-2.false) (w.lower-then-lower-eq110.ensures ∙ z))
+            | then-n-gt2 v ↦ nasal_not_second s (omega (arith, v.if-n-gt2.true)) (λ z. eqb-false _ _ (sym w.value-is ∙ c.if-lower-eq-N-2.false) (w.lower-then-lower-eq-N.ensures ∙ z))
             | else-n-gt2 v ↦ nasal_short s (omega (arith, v.if-n-gt2.false))
           ]
-      | else-lower-eq110 w ↦
+      | else-lower-eq-N w ↦
           elim c.if-n-gt2.branch [
-            | then-n-gt2 v ↦ nasal_not_last s (omega (arith, v.if-n-gt2.true)) (λ z. eqb-false _ _ (sym v.value-is ∙ w.if-lower-eq110.false) (v.lower.ensures ∙ z))
+            | then-n-gt2 v ↦ nasal_not_last s (omega (arith, v.if-n-gt2.true)) (λ z. eqb-false _ _ (sym v.value-is ∙ w.if-lower-eq-N.false) (v.lower.ensures ∙ z))
             | else-n-gt2 v ↦ nasal_short s (omega (arith, v.if-n-gt2.false))
           ]
     ])

@@ -12,7 +12,7 @@ use Rattle.khiin.specs.Compose.{is_nasal_pair}
 use Rattle.khiin.proofs.syllable.compose.Once.{nasal_at}
 use native.Mathlib.Omega.{arith}
 use Rattle.khiin.proofs.syllable.compose.has_nasal.Goals as goal
-use Rattle.khiin.proofs.syllable.compose.has_nasal.Goals.{else-lower-eq110-via-then-lower-eq110+else-lower-eq110-2, else-lower-eq110-via-else-lower-eq110}
+use Rattle.khiin.proofs.syllable.compose.has_nasal.Goals.{else-lower-eq-N-via-then-lower-eq-N+else-lower-eq-N-2, else-lower-eq-N-via-else-lower-eq-N}
 
 -- one place more
 more : (s : List ℕ) (i : ℕ) → 2 ≤ i → ((k : ℕ) → k + 2 < i → is_nasal_pair (drop k s) ≡ false) → is_nasal_pair (drop (i - 2) s) ≡ false → (k : ℕ) → k + 2 < i + 1 → is_nasal_pair (drop k s) ≡ false
@@ -39,7 +39,7 @@ loop-i-preserved c =
     let i = c.loop-i.i in
     let some : 2 ≤ i = omega arith in
     more s i some c.loop-i.invariant
-    (elim c.else-lower-eq110.branch [
-      | else-lower-eq110-via-then-lower-eq110+else-lower-eq110-2 w ↦ second_not s i some (λ z. w.if-lower-eq110-2.false (w.lower-then-lower-eq110.ensures ∙ z))
-      | else-lower-eq110-via-else-lower-eq110 w ↦ first_not s i (λ z. w.if-lower-eq110.false (c.lower.ensures ∙ z))
+    (elim c.else-lower-eq-N.branch [
+      | else-lower-eq-N-via-then-lower-eq-N+else-lower-eq-N-2 w ↦ second_not s i some (λ z. w.if-lower-eq-N-2.false (w.lower-then-lower-eq-N.ensures ∙ z))
+      | else-lower-eq-N-via-else-lower-eq-N w ↦ first_not s i (λ z. w.if-lower-eq-N.false (c.lower.ensures ∙ z))
     ])

@@ -21,8 +21,8 @@ returns-then-n-len c =
     let w = c.take_out-n.ensures in
     rw (moved_some a.sign a.s.now c.if-s-len.false (rw w.size c.if-n-len.true)) (front_written (written_one w a.sign c.if-n-len.true))
 
-pub returns : goal.returns
-returns c =
+pub returns-else-n-len : goal.returns-else-n-len
+returns-else-n-len c =
     let a = c.args in
     let w = c.take_out-n.ensures in
     let m = moved_none a.sign a.s.now (rw w.size c.if-n-len.false) in

@@ -18,8 +18,8 @@ returns-then-has_sign c =
       lone = λ e. absurd (false_true e);
     }
 
-pub returns : goal.returns
-returns c =
+pub returns-else-has_sign : goal.returns-else-has_sign
+returns-else-has_sign c =
     let s = c.args.s.now in
     let n = c.has_sign.ensures c.if-has_sign.false in
     record {

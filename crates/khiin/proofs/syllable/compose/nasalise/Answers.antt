@@ -4,17 +4,17 @@ use Rattle.khiin.proofs.syllable.compose.nasalise.Goals as goal
 
 pub returns-then-has_nasal : goal.returns-then-has_nasal
 returns-then-has_nasal c =
-    rw (nasalised_yes c.args.s.now (sym c.ends_nasal.ensures ∙ c.if-ends_nasal.true)) c.respell_nasals.ensures
+    rw (nasalised_yes c.args.s.now (sym c.ends_nasal.ensures ∙ c.if-not-ends_nasal.false)) c.respell_nasals.ensures
 
 pub end_in_sign-requires : goal.end_in_sign-requires
 end_in_sign-requires c =
-    (sym c.ends_nasal.ensures ∙ c.if-ends_nasal.true, c.has_nasal.ensures c.if-has_nasal.false)
+    (sym c.ends_nasal.ensures ∙ c.if-not-ends_nasal.false, c.has_nasal.ensures c.if-has_nasal.false)
 
-pub returns-then-ends_nasal : goal.returns-then-ends_nasal
-returns-then-ends_nasal c =
-    rw (nasalised_yes c.args.s.now (sym c.ends_nasal.ensures ∙ c.if-ends_nasal.true)) c.end_in_sign.ensures
+pub returns-else-has_nasal : goal.returns-else-has_nasal
+returns-else-has_nasal c =
+    rw (nasalised_yes c.args.s.now (sym c.ends_nasal.ensures ∙ c.if-not-ends_nasal.false)) c.end_in_sign.ensures
 
-pub returns : goal.returns
-returns c =
+pub returns-then-not-ends_nasal : goal.returns-then-not-ends_nasal
+returns-then-not-ends_nasal c =
     let s = c.args.s.now in
-    rw (nasalised_no s (sym c.ends_nasal.ensures ∙ c.if-ends_nasal.false)) (front_whole s)
+    rw (nasalised_no s (sym c.ends_nasal.ensures ∙ c.if-not-ends_nasal.true)) (front_whole s)

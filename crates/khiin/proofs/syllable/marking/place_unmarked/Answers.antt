@@ -11,5 +11,5 @@ returns-then-is_settled c =
     let a = c.args in
     c.place.ensures ∙ ap (λ (u : List ℕ). placed 0 (encode u) a.out.now) (sym (encoded_settled a.s.now (c.is_settled.ensures c.if-is_settled.true)))
 
-pub returns : goal.returns
-returns c = c.place_encoded.ensures
+pub returns-else-is_settled : goal.returns-else-is_settled
+returns-else-is_settled c = c.place_encoded.ensures

@@ -6,16 +6,16 @@ use native.Mathlib.Omega.{arith}
 use Rattle.khiin.proofs.syllable.plain.ends_in_nn.Goals as goal
 use Rattle.khiin.proofs.syllable.plain.ends_in_nn.Goals.{then-n-gt2, else-n-gt2}
 
-pub returns-then-lower-eq110 : goal.returns-then-lower-eq110
-returns-then-lower-eq110 c = λ e.
+pub returns-then-lower-eq-N : goal.returns-then-lower-eq-N
+returns-then-lower-eq-N c = λ e.
     let s = c.args.s.now in
     elim c.if-n-gt2.branch [
-      | then-n-gt2 w ↦ nasal_not_second s (omega (arith, w.if-n-gt2.true)) (λ z. eqb-false _ _ e (c.lower-then-lower-eq110.ensures ∙ ap lower c.from-then-lower-eq110.ensures ∙ z))
-      | else-n-gt2 w ↦ absurd (omega (arith, w.if-n-gt2.false, ltb-true 2 _ (sym w.value-is ∙ c.if-lower-eq110.true)))
+      | then-n-gt2 w ↦ nasal_not_second s (omega (arith, w.if-n-gt2.true)) (λ z. eqb-false _ _ e (c.lower-then-lower-eq-N.ensures ∙ ap lower c.from-then-lower-eq-N.ensures ∙ z))
+      | else-n-gt2 w ↦ absurd (omega (arith, w.if-n-gt2.false, ltb-true 2 _ (sym w.value-is ∙ c.if-lower-eq-N.true)))
     ]
 
-pub returns-else-lower-eq110 : goal.returns-else-lower-eq110
-returns-else-lower-eq110 c = λ e.
+pub returns-else-lower-eq-N : goal.returns-else-lower-eq-N
+returns-else-lower-eq-N c = λ e.
     let s = c.args.s.now in
     elim c.if-n-gt2.branch [
       | then-n-gt2 w ↦ nasal_not_last s (omega (arith, w.if-n-gt2.true)) (λ z. eqb-false _ _ (sym w.value-is ∙ e) (w.lower.ensures ∙ ap lower w.from.ensures ∙ z))

@@ -19,8 +19,8 @@ returns-then-body-le16 c =
     c.compose_in.ensures raw_input e
     ∙ ap (compose_of unicode16 c.args.self.tone c.args.self.khin (good raw_input) (check_text unicode16 c.args.body.now)) (c.in_default.ensures.1 raw_input e)
 
-pub returns : goal.returns
-returns c =
+pub returns-else-body-le16 : goal.returns-else-body-le16
+returns-else-body-le16 c =
     λ raw_input e.
-    c.compose_in-2.ensures raw_input e
+    c.compose_in-else-body-le16.ensures raw_input e
     ∙ ap (compose_of unicode16 c.args.self.tone c.args.self.khin (good raw_input) (check_text unicode16 c.args.body.now)) (c.in_default.ensures.1 raw_input e)

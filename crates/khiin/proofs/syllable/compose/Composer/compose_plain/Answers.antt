@@ -7,7 +7,7 @@ use Rattle.ji.specs.Reply.{placed}
 use Rattle.khiin.specs.Syllable.{compose}
 use Rattle.khiin.specs.Compose.{QuickAs}
 use Rattle.khiin.proofs.syllable.plain.Laws.{plain_composed}
-use Rattle.khiin.proofs.syllable.plain.compose_plain.Goals as goal
+use Rattle.khiin.proofs.syllable.compose.Composer.compose_plain.Goals as goal
 
 pub returns-in-No : goal.returns-in-No
 returns-in-No c =
@@ -16,6 +16,6 @@ returns-in-No c =
       λ h. plain.ascii,
       λ raw_input e.
           subst (QuickAs _ c.args.out.now _)
-          (ap (λ (v : List ℕ). placed 0 (encode v) c.args.out.now) (plain_composed s plain raw_input c.args.tone ∙ ap (compose unicode16 raw_input s c.args.tone) (sym c.in-No.is)))
+          (ap (λ (v : List ℕ). placed 0 (encode v) c.args.out.now) (plain_composed s plain raw_input c.args.self.tone ∙ ap (compose unicode16 raw_input s c.args.self.tone) (sym c.in-No.is)))
           (c.place_plain.ensures raw_input e),
     )

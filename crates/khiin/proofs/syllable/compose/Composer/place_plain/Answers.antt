@@ -8,15 +8,15 @@ use Rattle.ji.proofs.lomaji.tone_letter.Laws.{tone_letter_below}
 use Rattle.khiin.specs.Syllable.{composed_with}
 use Rattle.khiin.proofs.syllable.marking.Letters.{mark_told}
 use Rattle.khiin.proofs.syllable.plain.Laws.{ascii_encoded, byte_place_told}
-use Rattle.khiin.proofs.syllable.plain.place_plain.Goals as goal
+use Rattle.khiin.proofs.syllable.compose.Composer.place_plain.Goals as goal
 
 pub place_joined-requires : goal.place_joined-requires
 place_joined-requires c =
     (tone_letter_below c.args.s.now _ (byte_place_told c.args.s.now c.in-Some-ascii_tone_position.is c.ascii_tone_position.ensures), c.requires)
 
-pub returns-in-None : goal.returns-in-None
-returns-in-None c =
+pub returns-in_default : goal.returns-in_default
+returns-in_default c =
     λ raw_input e.
     let s = c.args.s.now in
     c.place_bytes.ensures
-    ∙ ap (λ (u : List ℕ). placed 0 u c.args.out.now) (sym (ascii_encoded s c.requires) ∙ ap (λ (mark : List ℕ). encode (composed_with unicode16 raw_input s mark)) (mark_told c.args.tone c.in-None.is c.mark_of.ensures))
+    ∙ ap (λ (u : List ℕ). placed 0 u c.args.out.now) (sym (ascii_encoded s c.requires) ∙ ap (λ (mark : List ℕ). encode (composed_with unicode16 raw_input s mark)) (mark_told c.args.self.tone c.in_default.is c.mark_of.ensures))
