@@ -62,14 +62,14 @@ const SPACE: u16 = b' ' as u16;
 fn is_key(key: u8) -> bool
     ensures { result ≡ within 0x20 0x7E key }
 {
-    (0x20..=0x7E).contains(&key)
+    key == b' ' || key.is_ascii_graphic()
 }
 
 // Whether a tone key may be set to `x`.
 fn is_setting(x: u8) -> bool
     ensures { result ≡ is_setting x }
 {
-    (0x21..=0x7E).contains(&x)
+    x.is_ascii_graphic()
 }
 
 // Whether every tone key may be set as it is. The fields are no array, and the definition has a clause for each.
@@ -256,12 +256,13 @@ fn grown_len(key: u16, n: usize) -> usize
     if key == SPACE { n } else { n + 1 }
 }
 
-// A key that is typed behind a text of this tone, and the tone keys.
+// A key, which is ASCII, that is typed behind a text of this tone, and the tone keys.
 #[derive(Clone, Copy)]
 struct Step {
     keys: ToneKeys,
     key: u8,
     tone: Tone,
+    ghost ascii: { key ≤ 0x7F },
 }
 
 impl Step {
@@ -349,7 +350,7 @@ impl Step {
         points: &mut [u16],
         out: &mut [u8],
     ) -> Result<ByteLen, Refusal>
-        requires { (self.key ≤ 0x7F) × (n < length bytes.old) × (n ≤ length points.old) × (n + 2 < length points.old) × RestIn bytes.old n }
+        requires { (n < length bytes.old) × (n ≤ length points.old) × (n + 2 < length points.old) × RestIn bytes.old n }
         ensures { (h : RestIn bytes.old n) → text_reply result out.new ≡ placed 0 (encode (composed_of unicode16 self.keys self.key self.tone h.rest)) out.old }
     {
         let count = unicode::code_points(&bytes[..n], points)?;
@@ -366,7 +367,7 @@ impl Step {
         points: &mut [u16],
         out: &mut [u8],
     ) -> Result<ByteLen, Refusal>
-        requires { (self.key ≤ 0x7F) × (n + 1 < length bytes.old) × (n ≤ length points.old) × (n + 2 < length points.old) × RestIn bytes.old n }
+        requires { (n + 1 < length bytes.old) × (n ≤ length points.old) × (n + 2 < length points.old) × RestIn bytes.old n }
         ensures { (h : RestIn bytes.old n) → text_reply result out.new ≡ placed 0 (encode (edited unicode16 self.keys edit self.key self.tone h.rest)) out.old }
     {
         match edit {

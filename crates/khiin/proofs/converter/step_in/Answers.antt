@@ -121,7 +121,7 @@ finish-requires c =
     let n = known (goal.at-finish-requires c).After-unmarked_tone-tone in
     let q = c.requires.2 in
     let r = c.requires.3 in
-    (c.requires.0, omega (arith, n.0, n.1, q), omega (arith, n.0, q, r), omega (arith, n.0, q, r), n.2.0)
+    (omega (arith, n.0, n.1, q), omega (arith, n.0, q, r), omega (arith, n.0, q, r), n.2.0)
 
 pub returns-then-copy_ascii : goal.returns-then-copy_ascii
 returns-then-copy_ascii c =
@@ -151,7 +151,7 @@ finish-requires-2 c =
     let n = other (goal.at-finish-requires-2 c).After-edit_of-edit in
     let q = c.requires.2 in
     let r = c.requires.3 in
-    (c.requires.0, omega (arith, n.0, n.1, q), omega (arith, n.0, q, r), omega (arith, n.0, q, r), n.2.0)
+    (omega (arith, n.0, n.1, q), omega (arith, n.0, q, r), omega (arith, n.0, q, r), n.2.0)
 
 pub returns : goal.returns
 returns c =

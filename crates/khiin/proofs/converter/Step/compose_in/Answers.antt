@@ -32,10 +32,10 @@ module _ (c : After-code_points) where
   after = c.code_points.new.out
 
   size : length (take n c.args.bytes.now) ≡ n
-  size = let p = c.requires.1 in length-take-le n c.args.bytes.now (omega (arith, p))
+  size = let p = c.requires.0 in length-take-le n c.args.bytes.now (omega (arith, p))
 
   room : length part ≤ length c.args.points.now
-  room = let p = c.requires.2 in omega (arith, size, p)
+  room = let p = c.requires.1 in omega (arith, size, p)
 
   module _ (h : RestIn c.args.bytes.now n) where
     good_rest : check_points unicode16 (decode part) ≡ good h.rest
@@ -53,21 +53,21 @@ module _ (c : After-code_points) where
       raw_is : take (n + 1) (set c.args.bytes.now n c.args.self.key) ≡ encode (take len.0 after ++ (c.args.self.key ∷ []))
       raw_is =
           let key = c.args.self.key in
-          key_stored c.args.bytes.now n key c.requires.1
+          key_stored c.args.bytes.now n key c.requires.0
           ∙ ap (λ (l : List ℕ). l ++ (key ∷ [])) h.written
-          ∙ key_behind h.rest key c.requires.0
+          ∙ key_behind h.rest key c.args.self.ascii
           ∙ ap (λ (l : List ℕ). encode (l ++ (key ∷ []))) (sym (written_take read))
 
 pub bounds-bytes-n : goal.bounds-bytes-n
-bounds-bytes-n c = c.requires.1
+bounds-bytes-n c = c.requires.0
 
 pub slice_bounds-compose_step-end : goal.slice_bounds-compose_step-end
-slice_bounds-compose_step-end c = omega (arith, c.requires.1, length-set c.args.bytes.now c.args.n c.args.self.key)
+slice_bounds-compose_step-end c = omega (arith, c.requires.0, length-set c.args.bytes.now c.args.n c.args.self.key)
 
 pub compose_step-requires : goal.compose_step-requires
 compose_step-requires c =
-    let w = read (goal.at.compose_step-requires c).After-code_points c.requires.4 c.in_ok-count.count c.in_ok-count.was in
-    (omega (arith, w.size, c.requires.4.few), omega (arith, w.size, fewest (goal.at.compose_step-requires c).After-code_points c.requires.4, written_length w, c.requires.3), raw_is (goal.at.compose_step-requires c).After-code_points c.requires.4 c.in_ok-count.count c.in_ok-count.was)
+    let w = read (goal.at.compose_step-requires c).After-code_points c.requires.3 c.in_ok-count.count c.in_ok-count.was in
+    (omega (arith, w.size, c.requires.3.few), omega (arith, w.size, fewest (goal.at.compose_step-requires c).After-code_points c.requires.3, written_length w, c.requires.2), raw_is (goal.at.compose_step-requires c).After-code_points c.requires.3 c.in_ok-count.count c.in_ok-count.was)
 
 pub returns-in_err-count : goal.returns-in_err-count
 returns-in_err-count c =
