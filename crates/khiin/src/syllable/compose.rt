@@ -42,14 +42,13 @@ fn is_pair(s: &[u16], i: usize) -> bool
 // Where the first such pair stands from `from` on.
 fn next_pair(s: &[u16], from: usize) -> Option<usize>
     requires { from ≤ length s.now }
-    ensures { MatchOption result (NoPairIn from (length s.now) s.now) (λ k. (k < length s.now) × NoPairIn from k s.now × (is_pair (drop k s.now) ≡ true)) }
+    ensures { MatchOption result (NoPairIn from (length s.now) s.now) (λ k. (from ≤ k) × (k < length s.now) × (is_pair (drop k s.now) ≡ true) × NoPairIn from k s.now) }
 {
-    for i in from..s.len() {
-        if is_pair(s, i) {
-            return Some(i);
-        }
-    }
-    None
+    (from..s.len()).find(
+        |&i|
+            requires { i < length s.now }
+        { is_pair(s, i) },
+    )
 }
 
 // Whether the pair at `at`, the first, is the only one, and no o or e stands before it, which what becomes of it might be a pair with.
@@ -287,8 +286,8 @@ fn write_dotted(s: &[u16], out: &mut [u16]) -> usize
     ensures { Written out.old out.new result (respell o_rules s.now) × (result ≤ 2 * length s.now) }
 {
     let mut n: usize = 0;
-    for i in 0..s.len() {
-        out[n] = s[i];
+    for (i, &x) in s.iter().enumerate() {
+        out[n] = x;
         n += 1;
         if takes_dot(s, i) {
             out[n] = DOT;
