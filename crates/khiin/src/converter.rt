@@ -293,16 +293,21 @@ impl Step {
         requires { (n ≤ length whole.now) × (len ≤ length whole.now) }
         ensures { (result.len ≤ length whole.now) × (grown self.key (take n whole.now) ≡ take len whole.now → composed_of unicode16 self.keys self.key self.tone (take n whole.now) ≡ compose unicode16 (take n whole.now ++ (self.key ∷ [])) (take result.len whole.now) result.tone Khin.No) }
     {
-        if takes_tone(self.tone, &whole[..n]) {
-            let low = lower(self.key as u16);
-            let named = key_to_tone(self.keys, low);
-            if named.is_tone() {
-                return Body {
-                    len: n,
-                    tone: shared_or(self.keys, low, named, &whole[..n]),
-                };
-            }
+        if !takes_tone(self.tone, &whole[..n]) {
             return Body {
+                len,
+                tone: Tone::None,
+            };
+        }
+        let low = lower(self.key as u16);
+        let named = key_to_tone(self.keys, low);
+        if named.is_tone() {
+            Body {
+                len: n,
+                tone: shared_or(self.keys, low, named, &whole[..n]),
+            }
+        } else {
+            Body {
                 len,
                 tone: shared_or(
                     self.keys,
@@ -310,11 +315,7 @@ impl Step {
                     self.tone,
                     &whole[..len],
                 ),
-            };
-        }
-        Body {
-            len,
-            tone: Tone::None,
+            }
         }
     }
 
@@ -358,7 +359,8 @@ impl Step {
         self.compose_step(&bytes[..n + 1], points, count.0, out)
     }
 
-    // Writes what a branch makes of the stripped text, the first `n` of `bytes`. Edit is what the definition names, and so no step passed in.
+    // Writes what a branch makes of the stripped text, the first `n` of `bytes`. A match: the definition names Edit, and a closure for
+    // each branch would hide which it is.
     fn finish(
         self,
         edit: Edit,
