@@ -104,6 +104,7 @@ fn keys_in(mode: ToneMode, k: ToneKeys) -> ToneKeys
 }
 
 // The tone of a key, None of any other. The keys are no constants, which a `match` would need.
+// The keys widen by `as`: with `u16::from` the proofs of the step did not close as they stand.
 fn key_to_tone(k: ToneKeys, key: u16) -> Tone
     ensures { result ≡ key_to_tone k key }
 {
