@@ -170,7 +170,8 @@ fn respell_nasals(s: &mut [u16]) -> usize
     shrink_pair(&mut s[..k], CAPITAL_N, CAPITAL_N, CAPITAL_SIGN)
 }
 
-// Whether nn, case ignored, stands anywhere in `s` but at its end. `windows(2)` over all but the last is no plainer: it has a case for the empty text.
+// Whether nn, case ignored, stands anywhere in `s` but at its end. `windows(2)` over all but the last code point is no plainer: the empty text would
+// need a case.
 fn has_nasal(s: &[u16]) -> bool
     ensures { result ≡ false → NoNasalBefore s.now }
 {

@@ -5,14 +5,13 @@ ghost use Rattle.ji.specs.Unicode.{unicode16, listed};
 ghost use Rattle.ji.specs.Text.{points as points_of};
 ghost use Rattle.ji.specs.Utf8.{bytes_of, encode};
 ghost use Rattle.ji.specs.Reply.{placed, text_reply};
-ghost use Rattle.khiin.specs.Syllable.{mark_of, encoded, composed_with};
+ghost use Rattle.khiin.specs.Syllable.{mark_of, encoded};
 ghost use Rattle.khiin.specs.Compose.{Front, mark_text, stays_behind, settled_from, JoinedAs, JoinedIn, inserted};
 
 use crate::syllable::letters::{
     A, CAPITAL_A, CAPITAL_E, CAPITAL_I, CAPITAL_M, CAPITAL_N, CAPITAL_O, CAPITAL_SIGN, CAPITAL_U,
     DOT, DOTS, E, I, M, N, O, SMALL_SIGN, U,
 };
-use ji::lomaji::tone_letter::tone_position;
 use ji::nfc::place_exchanged;
 use ji::reply;
 use ji::reply::Refusal;
