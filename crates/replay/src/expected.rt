@@ -24,8 +24,7 @@ pub(crate) fn is_untouched(bytes: &[u8]) -> bool
 pub(crate) fn bytes_written(h: Header) -> usize
     ensures { result ≡ written h }
 {
-    let call = h.call;
-    if (h.code == 0) & ((call == 0) | (call == 2) | (call == 3) | (6 <= call)) {
+    if h.code == 0 && matches!(h.call, 0 | 2 | 3 | 6..) {
         h.length
     } else {
         0
@@ -36,13 +35,16 @@ pub(crate) fn bytes_written(h: Header) -> usize
 pub(crate) fn has_numbers(reply: Reply, h: Header) -> bool
     ensures { result ≡ same_numbers (reply_of reply []) (said h []) }
 {
-    (reply.code == h.code as u64)
-        & (reply.length == h.length as u64)
-        & (reply.count == h.count)
-        & (reply.body == h.body as u64)
-        & (reply.tone == h.tone as u64)
-        & (reply.khin == h.khin as u64)
-        & (reply.position == h.position as u64)
+    reply
+        == Reply {
+            code: u64::from(h.code),
+            length: h.length as u64,
+            count: h.count,
+            body: h.body as u64,
+            tone: u64::from(h.tone),
+            khin: u64::from(h.khin),
+            position: h.position as u64,
+        }
 }
 
 // Whether a reply and the buffer are as the record says, whose output is `wanted`.

@@ -28,7 +28,8 @@ const NAMES: [&str; 13] = [
     "align",
 ];
 
-// What one record of the list came to: the call and whether it replied as the record says.
+// What one record of the list came to: the call and whether it replied as the record says. The four cases stand beside each other, since the list's end and a
+// record that cannot be replayed are no errors of the reader, of which the Result tells.
 #[derive(Clone, Copy)]
 enum Outcome {
     Same(u8),
@@ -38,12 +39,30 @@ enum Outcome {
     End,
 }
 
-// By the call's number, how many records there were, how many of them differed, and whether the list did not come to its end.
+// How many records there were of a call, and how many of them differed.
+#[derive(Clone, Copy)]
+struct Count {
+    records: u64,
+    different: u64,
+}
+
+// The counts by the call's number, and whether the list did not come to its end.
 #[derive(Clone, Copy)]
 struct Tally {
-    records: [u64; 13],
-    different: [u64; 13],
+    counts: [Count; 13],
     malformed: bool,
+}
+
+impl Tally {
+    // Counts a record, and a difference.
+    fn count(&mut self, call: u8, difference: bool) {
+        if let Some(count) = self.counts.get_mut(usize::from(call)) {
+            count.records = count.records.saturating_add(1);
+            count.different = count.different.saturating_add(u64::from(difference));
+        } else {
+            self.malformed = true;
+        }
+    }
 }
 
 // Fills the buffer, and says whether the input had that much.
@@ -91,25 +110,13 @@ fn replay_one<R: Read>(reader: &mut R) -> io::Result<Outcome> {
     replay_body(reader, h, &mut body[..size])
 }
 
-impl Tally {
-    // Counts a record, and a difference.
-    fn count(&mut self, call: u8, difference: bool) {
-        let i = usize::from(call);
-        if i < 13 {
-            self.records[i] = self.records[i].saturating_add(1);
-            if difference {
-                self.different[i] = self.different[i].saturating_add(1);
-            }
-        } else {
-            self.malformed = true;
-        }
-    }
-}
-
 fn replay_all<R: Read>(reader: &mut R) -> io::Result<Tally> {
+    let none = Count {
+        records: 0,
+        different: 0,
+    };
     let mut t = Tally {
-        records: [0; 13],
-        different: [0; 13],
+        counts: [none; 13],
         malformed: false,
     };
     // A proved loop has to end, and nothing says that the input does. So the loop counts its turns, to a number that no run comes to.
@@ -127,10 +134,9 @@ fn replay_all<R: Read>(reader: &mut R) -> io::Result<Tally> {
 
 pub(crate) fn run(rt: &(impl Input + Print)) -> io::Result<()> {
     let t = replay_all(&mut rt.reader())?;
-    for (i, name) in NAMES.iter().enumerate() {
-        let all = t.records[i];
-        let different = t.different[i];
-        println!(rt; "{name} {all} {different}")?;
+    for (name, count) in NAMES.iter().zip(&t.counts) {
+        let Count { records, different } = *count;
+        println!(rt; "{name} {records} {different}")?;
     }
     let malformed = u64::from(t.malformed);
     println!(rt; "malformed {malformed}")

@@ -16,7 +16,7 @@ use khiin_records::Record;
 
 // 0 or the refusal's number, and the numbers that a call gives, each 0 where it gives none.
 #[repr(C)]
-#[derive(Clone, Copy)]
+#[derive(Clone, Copy, PartialEq, Eq)]
 pub struct Reply {
     pub code: u64,
     pub length: u64,
