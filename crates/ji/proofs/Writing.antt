@@ -116,10 +116,6 @@ module _ (d : List ℕ) (j : ℕ) where
   pub stores_3 : (a b c : ℕ) → j + 3 ≤ length d → set (set (set d j a) (j + 1) b) (j + 2) c ≡ paste d j (a ∷ b ∷ c ∷ []) 3
   stores_3 a b c room = ap₂ (λ (k n : ℕ). set (set (set d j a) k b) n c) (add-one j) (add-two j) ∙ sets-eq (a ∷ b ∷ c ∷ []) d j room
 
--- an element that was stored behind the first n
-pub stored_key : (p : List ℕ) (n key : ℕ) → n < length p → take (n + 1 - 0) (set p n key) ≡ take n p ++ (key ∷ [])
-stored_key p n key h = ap (λ (m : ℕ). take m (set p n key)) (sub-zero (n + 1) ∙ add-one n) ∙ take-suc-set p n key h
-
 -- ── elements stored at their own places, in any order
 module _ (s before : List ℕ) (i : ℕ) (h : i < length s) (fits : length s ≤ length before) where
   stored : (j : ℕ) → Dec (i ≡ j) → get_or before j 0 ≡ get_or s j 0 → get_or (set before i (get_or s i 0)) j 0 ≡ get_or s j 0

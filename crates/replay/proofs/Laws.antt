@@ -41,9 +41,6 @@ pub all_untouched : (s : List ℕ) → ((k : ℕ) → k < length s → get_or s 
 all_untouched s f =
     ext_get_or 0 s (untouched (length s)) (sym (untouched_length (length s))) (λ i h. f i h ∙ sym (untouched_at (length s) i h))
 
-pub one_touched : (s : List ℕ) (i : ℕ) → i < length s → (get_or s i 0 ≡ 0xA5 → ⊥) → s ≡ untouched (length s) → ⊥
-one_touched s i h f e = f (ap (λ (l : List ℕ). get_or l i 0) e ∙ untouched_at (length s) i h)
-
 pub record Parts (h : Header) (wanted : List ℕ) (r : Reply) (buffer : List ℕ) : Type 0 where
   pub count : length wanted ≡ written h
   pub numbers : same_numbers (reply_of r []) (said h []) ≡ true

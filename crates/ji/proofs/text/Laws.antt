@@ -73,11 +73,6 @@ begins_length [] s e = omega arith
 begins_length (a ∷ p) [] e = absurd (false_true e)
 begins_length (a ∷ p) (x ∷ s) e = suc-le-suc (begins_length p s (and_right (eqb x a) (begins p s) e))
 
--- one element of the pattern against one of the text
-pub begins_step : (p s : List ℕ) (k i : ℕ) → k < length p → i < length s → begins (drop k p) (drop i s) ≡ (eqb (get_or s i 0) (get_or p k 0) && begins (drop (k + 1) p) (drop (i + 1) s))
-unfolding begins
-begins_step p s k i hp hs = rw (drop_next p k hp, drop_next s i hs)
-
 -- a text that begins with p is p and the rest
 pub begins_split : (p s : List ℕ) → begins p s ≡ true → s ≡ p ++ drop (length p) s
 unfolding begins

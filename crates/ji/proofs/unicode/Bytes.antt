@@ -19,7 +19,3 @@ listed_nil c = refl
 pub listed_cons : (x : ℕ) (xs : List ℕ) (c : ℕ) → listed (x ∷ xs) c ≡ (eqb x c || listed xs c)
 unfolding listed
 listed_cons x xs c = refl
-
-pub same_cons : (x y : ℕ) (xs ys : List ℕ) → same (x ∷ xs) (y ∷ ys) ≡ (eqb x y && same xs ys)
-unfolding same
-same_cons x y xs ys = refl
