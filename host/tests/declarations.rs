@@ -381,14 +381,16 @@ fn renamed(mut functions: Functions) -> Parsed<Functions> {
     Ok(functions)
 }
 
-/// The arms of the function that numbers the refusals.
+/// The variants of the refusals' enum, whose discriminants are their numbers.
 fn rattle_refusals(text: &str) -> Parsed<BTreeMap<String, u64>> {
-    let (_, rest) = text.split_once("pub fn number(why: Refusal) -> u64").ok_or("no function number")?;
-    let (arms, _) = between(rest, "match why {", "}")?;
+    if !text.contains("pub fn number(self) -> u64") || !text.contains("    self as u64\n") {
+        return Err("no method number that gives the discriminant".to_owned());
+    }
+    let (variants, _) = between(text, "pub enum Refusal {", "}")?;
     let mut numbers = BTreeMap::new();
-    for arm in items(arms) {
-        let (refusal, number) = arm.split_once(" => ").ok_or(arm)?;
-        put_number(&mut numbers, refusal.strip_prefix("Refusal::").ok_or(arm)?, number)?;
+    for variant in items(variants) {
+        let (refusal, number) = variant.split_once(" = ").ok_or(variant)?;
+        put_number(&mut numbers, refusal, number)?;
     }
     Ok(numbers)
 }
