@@ -1,5 +1,5 @@
 -- What a reply that is as its record says comes to, part by part.
-use mathlib.Core.Path.{◌≡◌, refl, sym, ap, ◌∙◌}
+use mathlib.Core.Path.{◌≡◌, refl, sym, ap, ◌∙◌, subst}
 use mathlib.Core.Bool.{Bool, true, false, ◌&&◌}
 use mathlib.Core.List.{List, [], ◌++◌}
 use Prim.Native.Nat.{ℕ, ◌+◌, ◌≤◌, ◌<◌, ◌-◌}
@@ -8,6 +8,9 @@ use lib.Dec.{eqb}
 use lib.ListN.{length, get_or, take, drop, length-append, length-drop, length-replicate, get_or-replicate, take-append-drop}
 use lib.Seq.{ext_get_or, take_all, take-append_seam, drop-append_seam}
 use borrow.Author.Tests.{eq-eqb, eqb-true, leb-true}
+use Rattle.std.specs.Prelude.{◌≢◌, Option as Found, Some, None}
+use Rattle.std.specs.Option.{MatchOption}
+use Rattle.std.proofs.Common.{Bor}
 use Rattle.ji.specs.Reply as ji
 use Rattle.robinflint.specs.declared.reply.Reply.{Reply}
 use Rattle.robinflint.specs.Reply.{reply_of}
@@ -15,7 +18,8 @@ use Rattle.replay.specs.declared.record.Header.{Header}
 use Rattle.replay.specs.Record.{known, replayable}
 use Rattle.replay.specs.Calls.{answer_of}
 use Rattle.replay.specs.Replay.{Agrees}
-use Rattle.replay.specs.Expected.{Says, untouched, written, said, same_numbers, AsSaid}
+use Rattle.std.specs.Bool.{Decides}
+use Rattle.replay.specs.Expected.{untouched, written, said, same_numbers, AsSaid}
 
 false_true : false ≡ true → ⊥
 false_true e = let z : ◌≡◌ {A = ℕ} 0 1 = cc in omega arith
@@ -23,10 +27,10 @@ false_true e = let z : ◌≡◌ {A = ℕ} 0 1 = cc in omega arith
 pub true_false : true ≡ false → ⊥
 true_false e = false_true (sym e)
 
-pub yes : {P : Type 0} → P → Says true P
+pub yes : {P : Type 0} → P → Decides true P
 yes p = ((λ e. p), (λ q. refl))
 
-pub no : {P : Type 0} → (P → ⊥) → Says false P
+pub no : {P : Type 0} → (P → ⊥) → Decides false P
 no f = ((λ e. absurd (false_true e)), (λ p. absurd (f p)))
 
 untouched_length : (n : ℕ) → length (untouched n) ≡ n
@@ -41,13 +45,6 @@ pub all_untouched : (s : List ℕ) → ((k : ℕ) → k < length s → get_or s 
 all_untouched s f =
     ext_get_or 0 s (untouched (length s)) (sym (untouched_length (length s))) (λ i h. f i h ∙ sym (untouched_at (length s) i h))
 
-pub record Parts (h : Header) (wanted : List ℕ) (r : Reply) (buffer : List ℕ) : Type 0 where
-  pub count : length wanted ≡ written h
-  pub numbers : same_numbers (reply_of r []) (said h []) ≡ true
-  pub room : length wanted ≤ length buffer
-  pub front : take (length wanted) buffer ≡ wanted
-  pub rest : drop (length wanted) buffer ≡ untouched (length (drop (length wanted) buffer))
-
 eqb_self : (n : ℕ) → eqb n n ≡ true
 eqb_self n = eq-eqb n n refl
 
@@ -58,19 +55,18 @@ split : (a b : Bool) → (a && b) ≡ true → (a ≡ true) × (b ≡ true)
 split true b e = (refl, e)
 split false b e = absurd (false_true e)
 
-pub parts : (h : Header) (wanted : List ℕ) (r : Reply) (buffer : List ℕ) → AsSaid h wanted (reply_of r buffer) → Parts h wanted r buffer
+-- what a reply as its record says has: the count of bytes, the numbers, and the buffer
+pub count_of : (h : Header) (wanted : List ℕ) (r : ji.Reply) → AsSaid h wanted r → length wanted ≡ written h
 unfolding AsSaid
-parts h wanted r buffer (n, e) =
-    let b : buffer ≡ wanted ++ untouched (length buffer - length wanted) = ap (λ (x : ji.Reply). x.buffer) e in
-    let l : length buffer ≡ length wanted + length (untouched (length buffer - length wanted)) = ap length b ∙ length-append wanted (untouched (length buffer - length wanted)) in
-    let d : drop (length wanted) buffer ≡ untouched (length buffer - length wanted) = ap (drop (length wanted)) b ∙ drop-append_seam wanted (untouched (length buffer - length wanted)) in
-    record {
-      count = n;
-      numbers = ap (λ (x : ji.Reply). same_numbers x (said h [])) e ∙ same_self (said h []);
-      room = omega arith;
-      front = ap (take (length wanted)) b ∙ take-append_seam wanted (untouched (length buffer - length wanted));
-      rest = d ∙ ap untouched (sym (length-drop (length wanted) buffer));
-    }
+count_of h wanted r p = p.0
+
+pub numbers_of : (h : Header) (wanted : List ℕ) (r : Reply) (buffer : List ℕ) → AsSaid h wanted (reply_of r buffer) → same_numbers (reply_of r []) (said h []) ≡ true
+unfolding AsSaid
+numbers_of h wanted r buffer p = ap (λ (x : ji.Reply). same_numbers x (said h [])) p.1 ∙ same_self (said h [])
+
+buffer_of : (h : Header) (wanted : List ℕ) (r : Reply) (buffer : List ℕ) → AsSaid h wanted (reply_of r buffer) → buffer ≡ wanted ++ untouched (length buffer - length wanted)
+unfolding AsSaid
+buffer_of h wanted r buffer p = ap (λ (x : ji.Reply). x.buffer) p.1
 
 same_buffer : (x y : ji.Reply) → same_numbers x y ≡ true → x.buffer ≡ y.buffer → x ≡ y
 same_buffer x y e b =
@@ -91,29 +87,28 @@ same_buffer x y e b =
       buffer = b i;
     }
 
-pub whole : (h : Header) (wanted : List ℕ) (r : Reply) (buffer : List ℕ) → Parts h wanted r buffer → AsSaid h wanted (reply_of r buffer)
+as_said : (h : Header) (wanted : List ℕ) (r : Reply) (buffer : List ℕ) → length wanted ≡ written h → same_numbers (reply_of r []) (said h []) ≡ true
+    → buffer ≡ wanted ++ untouched (length buffer - length wanted)
+    → AsSaid h wanted (reply_of r buffer)
 unfolding AsSaid
-whole h wanted r buffer p = (
-  p.count,
-  same_buffer (reply_of r buffer) (said h (wanted ++ untouched (length buffer - length wanted))) p.numbers
-      (sym (take-append-drop (length wanted) buffer)
-      ∙ ap (λ (l : List ℕ). l ++ drop (length wanted) buffer) p.front
-      ∙ ap (λ (l : List ℕ). wanted ++ l) (p.rest ∙ ap untouched (length-drop (length wanted) buffer))),
-)
+as_said h wanted r buffer n same e = (n, same_buffer (reply_of r buffer) (said h (wanted ++ untouched (length buffer - length wanted))) same e)
 
--- where all but the last part holds, the last part decides
-pub rest_decides : (h : Header) (wanted : List ℕ) (r : Reply) (buffer : List ℕ) (b : Bool) → length wanted ≡ written h
-    → same_numbers (reply_of r []) (said h []) ≡ true
-    → length wanted ≤ length buffer
-    → take (length wanted) buffer ≡ wanted
-    → Says b (take (length buffer - length wanted) (drop (length wanted) buffer) ≡ untouched (length (take (length buffer - length wanted) (drop (length wanted) buffer))))
-    → Says b (AsSaid h wanted (reply_of r buffer))
-rest_decides h wanted r buffer b n same fits front s =
-    let all = take_all (length buffer - length wanted) (drop (length wanted) buffer) (simp length-drop (omega arith)) in
-    let says : Says b (drop (length wanted) buffer ≡ untouched (length (drop (length wanted) buffer))) = rw all at s in (
-      (λ e. whole h wanted r buffer (record { count = n; numbers = same; room = fits; front = front; rest = says.0 e })),
-      (λ p. says.1 (parts h wanted r buffer p).rest),
-    )
+-- where the count and the numbers are as the record says, the buffer decides: it has to begin with the wanted bytes, and `rest` is what follows them
+module _ (h : Header) (wanted : List ℕ) (r : Reply) (buffer : List ℕ) (n : length wanted ≡ written h) (same : same_numbers (reply_of r []) (said h []) ≡ true) where
+  rest_says : (b : Bool) (rest : List ℕ) → buffer ≡ wanted ++ rest → Decides b (rest ≡ untouched (length rest)) → Decides b (AsSaid h wanted (reply_of r buffer))
+  rest_says b rest is says =
+      let size : length buffer - length wanted ≡ length rest = omega (arith, ap length is, length-append wanted rest) in
+      let tail : AsSaid h wanted (reply_of r buffer) → rest ≡ untouched (length rest) =
+      λ p. sym (drop-append_seam wanted rest) ∙ ap (drop (length wanted)) (sym is ∙ buffer_of h wanted r buffer p)
+      ∙ drop-append_seam wanted (untouched (length buffer - length wanted))
+      ∙ ap untouched size in
+      ((λ e. as_said h wanted r buffer n same (is ∙ ap (λ (l : List ℕ). wanted ++ l) (says.0 e ∙ ap untouched (sym size)))), (λ p. says.1 (tail p)))
+
+  pub rest_decides : (b : Bool) (rest : Found (Bor (List ℕ))) → MatchOption rest ((l : List ℕ) → buffer ≢ wanted ++ l) (λ x. buffer ≡ wanted ++ x.now)
+      → MatchOption rest (b ≡ false) (λ x. Decides b (x.now ≡ untouched (length x.now)))
+      → Decides b (AsSaid h wanted (reply_of r buffer))
+  rest_decides b None other e = subst (λ (c : Bool). Decides c (AsSaid h wanted (reply_of r buffer))) (sym e) (no (λ p. other _ (buffer_of h wanted r buffer p)))
+  rest_decides b (Some x) is says = rest_says b x.now is says
 
 -- what `is_replayable` tests of the lengths
 pub record Room (h : Header) : Type 0 where
@@ -140,6 +135,6 @@ pub agrees_by : (h : Header) (body other wanted buffer : List ℕ) (r : ji.Reply
     → wanted ≡ take h.wanted (drop (h.input + h.other) body)
     → buffer ≡ untouched 3136
     → r ≡ answer_of h (take h.input body) other buffer
-    → Says b (AsSaid h wanted r)
-    → Says b (Agrees h body)
+    → Decides b (AsSaid h wanted r)
+    → Decides b (Agrees h body)
 agrees_by h body other wanted buffer r b eo ew eb er s = rw (← eo, ← ew, ← eb, ← er) s

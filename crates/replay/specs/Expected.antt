@@ -3,10 +3,6 @@ use Rattle.std.specs.Prelude.{◌≡◌, Bool, true, ◌&&◌, ◌||◌, cond, L
 use Rattle.ji.specs.Reply.{Reply}
 use Rattle.replay.specs.declared.record.Header.{Header}
 
--- a Bool that is true where P holds, and only there
-abbrev pub Says : Bool → Type 0 → Type 0
-Says b P = (b ≡ true → P) × (P → b ≡ true)
-
 -- n bytes as they are before a call
 unfoldable pub untouched : ℕ → List ℕ
 untouched n = replicate n 0xA5

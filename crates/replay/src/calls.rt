@@ -8,6 +8,7 @@ use crate::record::Header;
 use robinflint::reply::Reply;
 
 // Makes the call of a header, with the first bytes of `buffer` lent to it where it takes a buffer. `other` is the second text.
+#[tactic(auto, unfolding(crate::specs::Calls::answer_of, crate::specs::Calls::choose))]
 pub(crate) fn answer(h: Header, text: &[u8], other: &[u8], buffer: &mut [u8]) -> Reply
     requires { h.lent ≤ length buffer.old }
     ensures { reply_of result buffer.new ≡ answer_of h text.now other.now buffer.old }
@@ -21,24 +22,30 @@ pub(crate) fn answer(h: Header, text: &[u8], other: &[u8], buffer: &mut [u8]) ->
         3 => workbench::wb_nfc(text, &mut buffer[..lent]),
         4 => workbench::wb_strip_khin(text),
         5 => workbench::wb_has_tone_letter(text),
-        6 => workbench::wb_keys(text, h.first as u64, h.second as u64, &mut buffer[..lent]),
+        6 => workbench::wb_keys(
+            text,
+            u64::from(h.first),
+            u64::from(h.second),
+            &mut buffer[..lent],
+        ),
         _ => answer_of_syllables(h, text, other, &mut buffer[..lent]),
     }
 }
 
 // Makes a call from 7 on. Each of them takes a buffer, which is `out`.
+#[tactic(auto, unfolding(crate::specs::Calls::syllable_answer))]
 fn answer_of_syllables(h: Header, text: &[u8], other: &[u8], out: &mut [u8]) -> Reply
     ensures { reply_of result out.new ≡ syllable_answer h text.now other.now out.old }
 {
     let call = h.call;
     match call {
         7 => robinflint::rf_from_raw(text, out),
-        8 => robinflint::rf_compose(text, other, h.first as u64, h.second as u64, out),
+        8 => robinflint::rf_compose(text, other, u64::from(h.first), u64::from(h.second), out),
         9 => robinflint::rf_candidate(text, h.asked, out),
-        10 => robinflint::rf_keying(text, h.first as u64, h.asked, out),
+        10 => robinflint::rf_keying(text, u64::from(h.first), h.asked, out),
         11 => {
             let keys = seven(other);
-            robinflint::rf_telex(text, h.second as u64, h.first as u64, &keys, out)
+            robinflint::rf_telex(text, u64::from(h.second), u64::from(h.first), &keys, out)
         }
         _ => robinflint::rf_align(text, other, out),
     }
@@ -48,8 +55,5 @@ fn answer_of_syllables(h: Header, text: &[u8], other: &[u8], out: &mut [u8]) -> 
 fn seven(s: &[u8]) -> [u8; 7]
     ensures { result ≡ seven_of s.now }
 {
-    if s.len() == 7 {
-        return [s[0], s[1], s[2], s[3], s[4], s[5], s[6]];
-    }
-    [0; 7]
+    s.try_into().unwrap_or([0; 7])
 }

@@ -1,7 +1,8 @@
 // Whether a reply and the buffer are as a record says.
 ghost use Rattle.std.specs.Prelude.{◌≡◌, [], length};
 ghost use Rattle.robinflint.specs.Reply.{reply_of};
-ghost use Rattle.replay.specs.Expected.{Says, untouched, written, said, same_numbers, AsSaid};
+ghost use Rattle.std.specs.Bool.{Decides};
+ghost use Rattle.replay.specs.Expected.{untouched, written, said, same_numbers, AsSaid};
 
 use crate::record::Header;
 use robinflint::reply::Reply;
@@ -15,7 +16,7 @@ pub(crate) fn fresh_buffer() -> [u8; 3136]
 
 // Whether no byte has changed since `fresh_buffer`.
 pub(crate) fn is_untouched(bytes: &[u8]) -> bool
-    ensures { Says result (bytes.now ≡ untouched (length bytes.now)) }
+    ensures { Decides result (bytes.now ≡ untouched (length bytes.now)) }
 {
     bytes.iter().all(|byte| *byte == 0xA5)
 }
@@ -49,20 +50,11 @@ pub(crate) fn has_numbers(reply: Reply, h: Header) -> bool
 
 // Whether a reply and the buffer are as the record says, whose output is `wanted`.
 pub(crate) fn is_as_said(h: Header, wanted: &[u8], reply: Reply, buffer: &[u8]) -> bool
-    ensures { Says result (AsSaid h wanted.now (reply_of reply buffer.now)) }
+    ensures { Decides result (AsSaid h wanted.now (reply_of reply buffer.now)) }
 {
-    let n = wanted.len();
-    if n != bytes_written(h) {
-        return false;
-    }
-    if !has_numbers(reply, h) {
-        return false;
-    }
-    if buffer.len() < n {
-        return false;
-    }
-    if &buffer[..n] != wanted {
-        return false;
-    }
-    is_untouched(&buffer[n..])
+    wanted.len() == bytes_written(h)
+        && has_numbers(reply, h)
+        && buffer
+            .strip_prefix(wanted)
+            .is_some_and(|rest| is_untouched(rest))
 }

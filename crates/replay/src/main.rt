@@ -9,7 +9,7 @@ mod record;
 
 ghost use Rattle.std.specs.Prelude.{◌≡◌, true, ◌+◌, ◌≤◌, length};
 ghost use Rattle.replay.specs.Record.{replayable};
-ghost use Rattle.replay.specs.Expected.{Says};
+ghost use Rattle.std.specs.Bool.{Decides};
 ghost use Rattle.replay.specs.Replay.{Agrees};
 
 use crate::calls::answer;
@@ -20,7 +20,7 @@ use std::io;
 // Whether the call of a record replies as the record says. `body` is the record behind its header.
 fn agrees(h: Header, body: &[u8]) -> bool
     requires { (replayable h ≡ true) × (h.input + h.other + h.wanted ≤ length body.now) }
-    ensures { Says result (Agrees h body.now) }
+    ensures { Decides result (Agrees h body.now) }
 {
     let input = h.input;
     let middle = input + h.other;
