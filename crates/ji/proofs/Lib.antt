@@ -1,5 +1,6 @@
 pub mod Bools
 pub mod Cases
+pub mod Parts
 pub mod Writing
 pub mod Underway
 pub mod Replies

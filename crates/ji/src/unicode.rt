@@ -82,12 +82,12 @@ fn put(points: Spread, out: &mut [u16], at: usize) -> usize
     }
 }
 
-// Why a text is refused that has a code point outside the table at `at`: the rest decides whether it is well formed.
-fn fault_at(s: &[u8], at: usize) -> Refusal
-    requires { at ≤ length s.now }
-    ensures { result ≡ fault_in (decode (drop at s.now)) }
+// Why a text is refused whose rest `s` begins with a code point outside the table: the rest decides whether it is well
+// formed.
+fn fault_of(s: &[u8]) -> Refusal
+    ensures { result ≡ fault_in (decode s.now) }
 {
-    if utf8::well_formed(s, at) {
+    if utf8::well_formed(s) {
         Refusal::OutsideTable
     } else {
         Refusal::IllFormed
@@ -110,11 +110,11 @@ pub(crate) fn decode(s: &[u8], decomposed: bool, out: &mut [u16]) -> Result<Char
             n = put(Spread::One(u16::from(a)), out, n);
             i += 1;
         } else {
-            let Some(sequence) = utf8::read(s, i) else {
+            let Some(sequence) = utf8::read(&s[i..]) else {
                 return Err(Refusal::IllFormed);
             };
             if !ucd::is_member(sequence.point) {
-                return Err(fault_at(s, i));
+                return Err(fault_of(&s[i..]));
             }
             n = put(spread_point(sequence.point as u16, decomposed), out, n);
             i += sequence.width;
@@ -179,11 +179,11 @@ fn count_points(s: &[u8]) -> Result<CharLen, Refusal>
             i += 1;
             n += 1;
         } else {
-            let Some(sequence) = utf8::read(s, i) else {
+            let Some(sequence) = utf8::read(&s[i..]) else {
                 return Err(Refusal::IllFormed);
             };
             if !ucd::is_member(sequence.point) {
-                return Err(fault_at(s, i));
+                return Err(fault_of(&s[i..]));
             }
             i += sequence.width;
             n += 1;
@@ -277,7 +277,7 @@ pub fn last_point(text: &[u8]) -> u16
     if text.is_empty() {
         return 0;
     }
-    match utf8::read(text, utf8::last_start(text)) {
+    match utf8::read(&text[utf8::last_start(text)..]) {
         Some(sequence) => u16::try_from(sequence.point).unwrap_or(0),
         None => 0,
     }

@@ -41,86 +41,85 @@ fn is_second(a: u32, b: u32) -> bool
     }
 }
 
-// The sequence of two bytes at `at`. In the three of these a byte past the end reads as 0, as in Table 3-7's
-// definition, so that no pattern of the slice, for which a text that ends early is a case of its own, is plainer.
-fn read_two(s: &[u8], at: usize) -> Option<Sequence>
-    requires { (at < length s.now) × (0xC2 ≤ get_or s.now at 0) × (get_or s.now at 0 ≤ 0xDF) }
-    ensures { ReadOf (drop at s.now) result }
+// The sequence of two bytes that `s` begins with. In the three of these a byte past the end reads as 0, as in Table
+// 3-7's definition, so that no pattern of the slice, for which a text that ends early is a case of its own, is plainer.
+fn read_two(s: &[u8]) -> Option<Sequence>
+    requires { (0 < length s.now) × (0xC2 ≤ get_or s.now 0 0) × (get_or s.now 0 0 ≤ 0xDF) }
+    ensures { ReadOf s.now result }
 {
-    let a = byte_at(s, at);
-    let b = byte_at(s, at + 1);
+    let a = byte_at(s, 0);
+    let b = byte_at(s, 1);
     is_later(b).then_some(Sequence {
         width: 2,
         point: a % 32 * 64 + b % 64,
     })
 }
 
-fn read_three(s: &[u8], at: usize) -> Option<Sequence>
-    requires { (at < length s.now) × (0xE0 ≤ get_or s.now at 0) × (get_or s.now at 0 ≤ 0xEF) }
-    ensures { ReadOf (drop at s.now) result }
+fn read_three(s: &[u8]) -> Option<Sequence>
+    requires { (0 < length s.now) × (0xE0 ≤ get_or s.now 0 0) × (get_or s.now 0 0 ≤ 0xEF) }
+    ensures { ReadOf s.now result }
 {
-    let a = byte_at(s, at);
-    let b = byte_at(s, at + 1);
-    let c = byte_at(s, at + 2);
+    let a = byte_at(s, 0);
+    let b = byte_at(s, 1);
+    let c = byte_at(s, 2);
     (is_second(a, b) && is_later(c)).then_some(Sequence {
         width: 3,
         point: a % 16 * 4096 + b % 64 * 64 + c % 64,
     })
 }
 
-fn read_four(s: &[u8], at: usize) -> Option<Sequence>
-    requires { (at < length s.now) × (0xF0 ≤ get_or s.now at 0) × (get_or s.now at 0 ≤ 0xF4) }
-    ensures { ReadOf (drop at s.now) result }
+fn read_four(s: &[u8]) -> Option<Sequence>
+    requires { (0 < length s.now) × (0xF0 ≤ get_or s.now 0 0) × (get_or s.now 0 0 ≤ 0xF4) }
+    ensures { ReadOf s.now result }
 {
-    let a = byte_at(s, at);
-    let b = byte_at(s, at + 1);
-    let c = byte_at(s, at + 2);
-    let d = byte_at(s, at + 3);
+    let a = byte_at(s, 0);
+    let b = byte_at(s, 1);
+    let c = byte_at(s, 2);
+    let d = byte_at(s, 3);
     (is_second(a, b) && is_later(c) && is_later(d)).then_some(Sequence {
         width: 4,
         point: a % 8 * 262144 + b % 64 * 4096 + c % 64 * 64 + d % 64,
     })
 }
 
-// The sequence that begins at `at`, or `None` where the bytes there fit no row of Table 3-7.
-pub(crate) fn read_at(s: &[u8], at: usize) -> Option<Sequence>
-    requires { at < length s.now }
-    ensures { ReadOf (drop at s.now) result }
+// The sequence that `s` begins with, or `None` where its bytes fit no row of Table 3-7.
+pub(crate) fn read_any(s: &[u8]) -> Option<Sequence>
+    requires { 0 < length s.now }
+    ensures { ReadOf s.now result }
 {
-    let a = byte_at(s, at);
+    let a = byte_at(s, 0);
     match a {
         0x00..=0x7F => Some(Sequence { width: 1, point: a }),
-        0xC2..=0xDF => read_two(s, at),
-        0xE0..=0xEF => read_three(s, at),
-        0xF0..=0xF4 => read_four(s, at),
+        0xC2..=0xDF => read_two(s),
+        0xE0..=0xEF => read_three(s),
+        0xF0..=0xF4 => read_four(s),
         _ => None,
     }
 }
 
 // The same, small enough to be compiled into a caller's loop: a sequence of one byte or two is read in place, where a
 // call for each would be too slow.
-pub(crate) fn read(s: &[u8], at: usize) -> Option<Sequence>
-    requires { at < length s.now }
-    ensures { ReadOf (drop at s.now) result }
+pub(crate) fn read(s: &[u8]) -> Option<Sequence>
+    requires { 0 < length s.now }
+    ensures { ReadOf s.now result }
 {
-    let a = byte_at(s, at);
+    let a = byte_at(s, 0);
     match a {
         0x00..=0x7F => Some(Sequence { width: 1, point: a }),
-        0xC2..=0xDF => read_two(s, at),
-        _ => read_at(s, at),
+        0xC2..=0xDF => read_two(s),
+        _ => read_any(s),
     }
 }
 
-// Whether all of `s` from `at` on is well formed, by the same definition as its reading, where `str::from_utf8` would
-// need the two proved equal. Each turn steps by the width of a sequence, so that no `for` fits: an iterator over
-// sequences would need a contract of its own, for one line less.
-pub(crate) fn well_formed(s: &[u8], at: usize) -> bool
-    requires { at ≤ length s.now }
-    ensures { result ≡ is_decoded (decode (drop at s.now)) }
+// Whether all of `s` is well formed, by the same definition as its reading, where `str::from_utf8` would need the two
+// proved equal. Each turn steps by the width of a sequence, so that no `for` fits: an iterator over sequences would need
+// a contract of its own, for one line less.
+pub(crate) fn well_formed(s: &[u8]) -> bool
+    ensures { result ≡ is_decoded (decode s.now) }
 {
-    let mut i = at;
+    let mut i = 0;
     while i < s.len() {
-        let Some(sequence) = read_at(s, i) else {
+        let Some(sequence) = read_any(&s[i..]) else {
             return false;
         };
         i += sequence.width;

@@ -11,7 +11,8 @@ use lib.Seq.{drop-cons, drop-drop}
 use Rattle.ucd.specs.Table.{pick_number}
 use Rattle.ji.specs.Text.{within}
 use Rattle.ji.proofs.Bools.{false_true, either, and_right, number_yes, number_no}
-use Rattle.ji.specs.Utf8.{table37, fits_row, width_in, width_at, point_at, more, pick_decoded, decode_from, decode, is_decoded}
+use Rattle.ji.specs.Utf8.{table37, fits_row, width_in, width_at, point_at, more, pick_decoded, decode_from, decode, is_decoded, SequenceOf}
+use Rattle.ji.proofs.Parts.{part, part_is}
 
 abbrev Short : List (List (ℕ × ℕ)) → Type 0
 Short [] = Unit {0}
@@ -85,6 +86,13 @@ decode_end s i h = ap decode (drop_of_length-le s h)
 pub more_some : (x : ℕ) (o : Option (List ℕ)) (s : List ℕ) → more x o ≡ some s → (u : List ℕ) × (o ≡ some u) × (s ≡ x ∷ u)
 more_some x none s e = absurd (none-ne-some s e)
 more_some x (some u) s e = (u, refl, sym (some-injective (x ∷ u) s e))
+
+-- what is read of a slice from a place on is what stands there
+pub read_part : (s : List ℕ) (i w p : ℕ) → SequenceOf (part s i) w p → SequenceOf (drop i s) w p
+read_part s i w p q = subst (λ (l : List ℕ). SequenceOf l w p) (part_is s i) q
+
+pub ill_part : (s : List ℕ) (i : ℕ) → width_at (part s i) ≡ 0 → width_at (drop i s) ≡ 0
+ill_part s i e = ap width_at (sym (part_is s i)) ∙ e
 
 -- ── whether bytes are well formed
 decoded_more : (x : ℕ) (o : Option (List ℕ)) → is_decoded (more x o) ≡ is_decoded o

@@ -5,7 +5,7 @@ use mathlib.Core.List.{List, [], ◌∷◌}
 use Prim.Native.Nat.{ℕ, ◌-◌, ◌≤◌}
 use native.Mathlib.Omega.{arith}
 use lib.ListN.{length, take, drop, length-drop}
-use lib.Seq.{take_all}
+use Rattle.ji.proofs.Parts.{part_is}
 use Rattle.ji.specs.Text.{points, begins}
 use Rattle.ji.specs.Utf8.{bytes_of, encode, bytes}
 use Rattle.ji.specs.Lomaji.Khin.{pick_khin, after_mark, after_khin, khin_of, without_khin, khin_in}
@@ -38,7 +38,7 @@ after_none s e =
 
 -- the part of a slice from the mark's end on
 pub part_after : (s : List ℕ) → marked s ≡ true → take (length s - 2) (drop 2 s) ≡ after_khin s
-part_after s e = take_all (length s - 2) (drop 2 s) (simp length-drop (omega arith)) ∙ sym (after_mark_law s e)
+part_after s e = part_is s 2 ∙ sym (after_mark_law s e)
 
 pub khin_yes : (s : List ℕ) → marked s ≡ true → khin_of s ≡ Yes
 unfolding khin_of

@@ -8,7 +8,7 @@ use native.Mathlib.Omega.{arith}
 use native.Mathlib.Numerals.{add-one}
 use native.Mathlib.Decide.{dec_le}
 use lib.ListN.{length, take, drop, get_or, length-append, length-drop}
-use lib.Seq.{drop-cons, drop-length, take_at, take_all, get_or-drop}
+use lib.Seq.{drop-cons, drop-length, take_at, get_or-drop}
 use lib.Dec.{ltb}
 use borrow.Author.Tests.{ltb-true, ltb-false}
 use Rattle.std.specs.Prelude.{Some, None as None', not}
@@ -22,6 +22,7 @@ use Rattle.ucd.specs.Unicode16.{unicode16, ranges16, mappings16, classes16}
 use Rattle.ucd.proofs.Unicode16.{low_atom, low_starter}
 use Rattle.ji.specs.Utf8.{bytes_of, encode}
 use Rattle.ji.specs.Unicode.{members}
+use Rattle.ji.proofs.Parts.{part, part_is}
 use Rattle.ji.specs.Nfd.{Reorderable, NoPair, Ordered, nfd}
 use Rattle.ji.specs.Tone.{pick_tone, tone_number}
 use Rattle.ji.specs.Reply.{placed}
@@ -221,13 +222,6 @@ three_at s i h =
 -- an ASCII character, 0358 and 207F
 pub ascii_at : (s : List ℕ) (i : ℕ) → i < length s → get_or s i 0 < 0x80 → drop i s ≡ bytes_of (get_or s i 0) ++ drop (i + 1) s
 ascii_at s i h low = one_at s i h ∙ ap (λ (l : List ℕ). l ++ drop (i + 1) s) (sym (bytes_one (get_or s i 0) (omega arith)))
-
--- the part of s from i on, as a pattern reads it
-abbrev pub part : List ℕ → ℕ → List ℕ
-part s i = take (length s - i) (drop i s)
-
-pub part_is : (s : List ℕ) (i : ℕ) → part s i ≡ drop i s
-part_is s i = take_all (length s - i) (drop i s) (omega (arith, length-drop i s))
 
 pub byte_in : (s : List ℕ) (i k : ℕ) → get_or (part s i) k 0 ≡ get_or s (i + k) 0
 byte_in s i k = ap (λ (l : List ℕ). get_or l k 0) (part_is s i) ∙ (let e : get_or (drop i s) k 0 ≡ get_or s (i + k) 0 = rw get_or-drop in e)

@@ -9,11 +9,12 @@ use lib.Dec.{eqb, leb}
 use native.Mathlib.Decide.{dec_lt}
 use borrow.Author.Tests.{ne_eqb, eqb-false, lt-ltb, le-ltb}
 use lib.ListN.{length, take, drop, get_or, length-drop, drop_of_length-le}
-use lib.Seq.{drop-cons, take_all}
+use lib.Seq.{drop-cons}
 use Rattle.std.proofs.lemmas.List.{length-map, get_or-map, get_or-drop}
 use Rattle.std.specs.Char.{to_ascii_lowercase}
 use Rattle.std.specs.Prelude.{IsTrue, ◌↔◌}
 use Rattle.ucd.proofs.Tests.{same_equal, same_itself, true_passes}
+use Rattle.ji.proofs.Parts.{part_is}
 use Rattle.ucd.specs.Table.{Table, same}
 use Rattle.ji.specs.Text.{lower}
 use Rattle.ji.specs.Utf8.{bytes_of, decode, encode}
@@ -127,7 +128,7 @@ module _ (e s : List ℕ) (low : map lower e ≡ e) (fits : length e ≤ length 
   pub ends_ignoring : (b : Bool) → (IsTrue b ↔ (map to_ascii_lowercase (take (length s - At) (drop At s)) ≡ map to_ascii_lowercase e)) → b ≡ ends_in e s
   unfolding ends_in
   ends_ignoring b h =
-      let whole = take_all (length s - At) (drop At s) (omega (arith, length-drop At s)) in
+      let whole = part_is s At in
       let tail = ap (map to_ascii_lowercase) whole ∙ lowers_are (drop At s) in
       equal_same b (map lower (drop At s)) e ((λ y. sym tail ∙ h.0 y ∙ lowers_are e ∙ low), (λ y. h.1 (tail ∙ y ∙ sym (lowers_are e ∙ low))))
 

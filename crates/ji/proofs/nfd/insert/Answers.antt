@@ -3,7 +3,7 @@ use mathlib.Core.List.{List}
 use Prim.Native.Nat.{ℕ, ◌+◌, ◌-◌, ◌≤◌}
 use native.Mathlib.Omega.{arith}
 use lib.ListN.{length, take, drop, get_or, length-drop}
-use lib.Seq.{take_all}
+use Rattle.ji.proofs.Parts.{part_is}
 use Rattle.ucd.specs.Table.{combining_class}
 use Rattle.ucd.specs.Unicode16.{unicode16}
 use Rattle.ji.proofs.OrderLoops.{passed, passed_within, insert_turned}
@@ -17,11 +17,8 @@ module _ (c : After-passed) where
   abbrev rest : List ℕ
   rest = drop (c.args.i + 1) s
 
-  whole : take (length s - (c.args.i + 1)) rest ≡ rest
-  whole = take_all (length s - (c.args.i + 1)) rest (omega (arith, length-drop (c.args.i + 1) s))
-
   number : c.passed.result ≡ passed unicode16 (combining_class unicode16 (get_or s c.args.i 0)) rest
-  number = c.passed.ensures ∙ ap₂ (passed unicode16) c.class_of.ensures whole
+  number = c.passed.ensures ∙ ap₂ (passed unicode16) c.class_of.ensures (part_is s (c.args.i + 1))
 
   inside : c.args.i + 1 + c.passed.result ≤ length s
   inside = omega (arith, number, passed_within unicode16 (combining_class unicode16 (get_or s c.args.i 0)) rest, length-drop (c.args.i + 1) s)

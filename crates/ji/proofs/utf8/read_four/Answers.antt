@@ -22,5 +22,5 @@ returns c =
     ] in
     let told = all ∙ ap (λ (b : Bool). b && last) both ∙ and_group c.is_second.result third last ∙ ap (λ (b : Bool). b && (third && last)) (rw a at c.is_second.ensures) in
     rw (c.then_some.ensures, a)
-    (read_if _ _ _ (λ e. read_four s c.args.at c.requires.0 _ c.byte_at-b.ensures.0 _ c.byte_at-c.ensures.0 _ c.byte_at-d.ensures.0 c.requires.1 c.requires.2 (sym told ∙ e))
-    (λ e. read_four_not s c.args.at c.requires.0 _ c.byte_at-b.ensures.0 _ c.byte_at-c.ensures.0 _ c.byte_at-d.ensures.0 c.requires.1 c.requires.2 (sym told ∙ e)))
+    (read_if _ _ _ (λ e. read_four s 0 c.requires.0 _ c.byte_at-b.ensures.0 _ c.byte_at-c.ensures.0 _ c.byte_at-d.ensures.0 c.requires.1 c.requires.2 (sym told ∙ e))
+    (λ e. read_four_not s 0 c.requires.0 _ c.byte_at-b.ensures.0 _ c.byte_at-c.ensures.0 _ c.byte_at-d.ensures.0 c.requires.1 c.requires.2 (sym told ∙ e)))

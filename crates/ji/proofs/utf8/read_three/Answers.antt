@@ -17,5 +17,5 @@ returns c =
     ] in
     let told = both ∙ ap (λ (b : Bool). b && last) (rw a at c.is_second.ensures) in
     rw (c.then_some.ensures, a)
-    (read_if _ _ _ (λ e. read_three s c.args.at c.requires.0 _ c.byte_at-b.ensures.0 _ c.byte_at-c.ensures.0 c.requires.1 c.requires.2 (sym told ∙ e))
-    (λ e. read_three_not s c.args.at c.requires.0 _ c.byte_at-b.ensures.0 _ c.byte_at-c.ensures.0 c.requires.1 c.requires.2 (sym told ∙ e)))
+    (read_if _ _ _ (λ e. read_three s 0 c.requires.0 _ c.byte_at-b.ensures.0 _ c.byte_at-c.ensures.0 c.requires.1 c.requires.2 (sym told ∙ e))
+    (λ e. read_three_not s 0 c.requires.0 _ c.byte_at-b.ensures.0 _ c.byte_at-c.ensures.0 c.requires.1 c.requires.2 (sym told ∙ e)))

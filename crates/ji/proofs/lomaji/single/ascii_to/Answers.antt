@@ -6,7 +6,8 @@ use Rattle.std.specs.Char.{is_ascii}
 use Rattle.std.proofs.Common.{rules, tests}
 use Rattle.std.proofs.lemmas.Iterator.{YieldsList-from_slice}
 use Rattle.std.proofs.lemmas.Iterator.Search.{position_from_yields_List}
-use Rattle.ji.proofs.lomaji.single.Laws.{part_is, ascii_to_some, ascii_to_none}
+use Rattle.ji.proofs.Parts.{part_is}
+use Rattle.ji.proofs.lomaji.single.Laws.{ascii_to_some, ascii_to_none}
 use Rattle.ji.proofs.lomaji.single.ascii_to.Goals as goal
 
 pub returns-in-Some : goal.returns-in-Some

@@ -2,7 +2,8 @@ use mathlib.Core.Path.{◌≡◌, refl}
 use mathlib.Core.Logic.{inl, inr}
 use Prim.Native.Nat.{◌+◌, ◌≤◌}
 use lib.ListN.{length, get_or}
-use Rattle.ji.proofs.lomaji.single.Laws.{part, dot_at, nasal_at, kept_more, kept_on}
+use Rattle.ji.proofs.Parts.{part}
+use Rattle.ji.proofs.lomaji.single.Laws.{dot_at, nasal_at, kept_more, kept_on}
 use native.Mathlib.Omega.{arith}
 use Rattle.ji.proofs.lomaji.single.kept_to.Goals as goal
 use Rattle.ji.proofs.lomaji.single.kept_to.Goals.{then-this-lt3+in-205+in-152-1, else-this-lt3+in-205+in-152-1}

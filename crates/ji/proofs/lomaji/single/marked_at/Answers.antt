@@ -2,7 +2,8 @@ use mathlib.Core.Path.{◌≡◌, ap₂}
 use Prim.Native.Nat.{ℕ, ◌+◌, ◌*◌, ◌/◌, ◌%◌}
 use lib.ListN.{get_or}
 use Rattle.std.proofs.lemmas.Option.{IfSome_then}
-use Rattle.ji.proofs.lomaji.single.Laws.{part, letter_marked}
+use Rattle.ji.proofs.Parts.{part}
+use Rattle.ji.proofs.lomaji.single.Laws.{letter_marked}
 use native.Mathlib.Omega.{arith}
 use Rattle.ji.proofs.lomaji.single.marked_at.Goals as goal
 

@@ -2,7 +2,7 @@ use mathlib.Core.Path.{◌≡◌, sym, ap, ap₂, ◌∙◌}
 use mathlib.Core.List.{List, ◌∷◌, ◌++◌}
 use Prim.Native.Nat.{ℕ, ◌+◌, ◌-◌, ◌≤◌, ◌<◌}
 use lib.ListN.{length, take, drop, length-drop}
-use lib.Seq.{take_all}
+use Rattle.ji.proofs.Parts.{part_is}
 use Rattle.std.specs.Prelude.{Result}
 use Rattle.std.proofs.lemmas.Result.{err_from_is_err_and}
 use Rattle.ji.specs.Utf8.{bytes_of}
@@ -20,7 +20,7 @@ text_is : (text : List ℕ) (at base x : ℕ) → at + 2 ≤ length text → bas
     → take at text ++ (bytes_of x ++ take (length text - (at + 2)) (drop (at + 2) text)) ≡ take at text ++ (base ∷ drop (at + 2) text)
 text_is text at base x inside low is =
     ap (λ (l : List ℕ). take at text ++ l)
-    (ap₂ (λ (l m : List ℕ). l ++ m) (ap bytes_of is ∙ bytes_one base (omega arith)) (take_all (length text - (at + 2)) (drop (at + 2) text) (omega (arith, length-drop (at + 2) text))))
+    (ap₂ (λ (l m : List ℕ). l ++ m) (ap bytes_of is ∙ bytes_one base (omega arith)) (part_is text (at + 2)))
 
 pub returns : goal.returns
 returns c =
