@@ -17,7 +17,7 @@ use ji::lomaji::khin::Khin;
 use ji::lomaji::strip;
 use ji::lomaji::tone_letter::holds_letter;
 use ji::reply::Refusal;
-use ji::text::lower;
+use ji::text::{lower, lower_byte};
 use ji::tone::Tone;
 use ji::unicode::ByteLen;
 use ji::{reply, unicode};
@@ -56,8 +56,6 @@ const SMALL_U_DOTS: u16 = 0x1E73;
 
 const CAPITAL_U_DOTS: u16 = 0x1E72;
 
-const SPACE: u16 = b' ' as u16;
-
 // Whether `key` is one that may be typed.
 fn is_key(key: u8) -> bool
     ensures { result ≡ within 0x20 0x7E key }
@@ -73,6 +71,7 @@ fn is_setting(x: u8) -> bool
 }
 
 // Whether every tone key may be set as it is. The fields are no array, and the definition has a clause for each.
+#[tactic(auto, unfolding(crate::specs::Converter::settings_fit))]
 fn settings_fit(k: ToneKeys) -> bool
     ensures { result ≡ settings_fit k }
 {
@@ -104,55 +103,54 @@ fn keys_in(mode: ToneMode, k: ToneKeys) -> ToneKeys
 }
 
 // The tone of a key, None of any other. The keys are no constants, which a `match` would need.
-// The keys widen by `as`: with `u16::from` the proofs of the step did not close as they stand.
-fn key_to_tone(k: ToneKeys, key: u16) -> Tone
+fn key_to_tone(k: ToneKeys, key: u8) -> Tone
     ensures { result ≡ key_to_tone k key }
 {
-    if k.t2 as u16 == key {
+    if k.t2 == key {
         return Tone::T2;
     }
-    if k.t3 as u16 == key {
+    if k.t3 == key {
         return Tone::T3;
     }
-    if k.t5 as u16 == key {
+    if k.t5 == key {
         return Tone::T5;
     }
-    if k.t6 as u16 == key {
+    if k.t6 == key {
         return Tone::T6;
     }
-    if k.t7 as u16 == key {
+    if k.t7 == key {
         return Tone::T7;
     }
-    if k.t9 as u16 == key {
+    if k.t9 == key {
         return Tone::T9;
     }
-    if k.t8 as u16 == key {
+    if k.t8 == key {
         return Tone::T8;
     }
     Tone::None
 }
 
 // The key of a tone, and a space where it has none, as the definition says it, and no Option.
-fn tone_to_key(k: ToneKeys, tone: Tone) -> u16
+fn tone_to_key(k: ToneKeys, tone: Tone) -> u8
     ensures { result ≡ tone_to_key k tone }
 {
     match tone {
-        Tone::None | Tone::T1 | Tone::T4 => SPACE,
-        Tone::T2 => k.t2 as u16,
-        Tone::T3 => k.t3 as u16,
-        Tone::T5 => k.t5 as u16,
-        Tone::T6 => k.t6 as u16,
-        Tone::T7 => k.t7 as u16,
-        Tone::T8 => k.t8 as u16,
-        Tone::T9 => k.t9 as u16,
+        Tone::None | Tone::T1 | Tone::T4 => b' ',
+        Tone::T2 => k.t2,
+        Tone::T3 => k.t3,
+        Tone::T5 => k.t5,
+        Tone::T6 => k.t6,
+        Tone::T7 => k.t7,
+        Tone::T8 => k.t8,
+        Tone::T9 => k.t9,
     }
 }
 
 // e, in the case of the key.
-fn e_like(key: u16) -> u16
+fn e_like(key: u8) -> u8
     ensures { result ≡ e_like key }
 {
-    if lower(key) == key { E } else { CAPITAL_E }
+    if lower_byte(key) == key { b'e' } else { b'E' }
 }
 
 // Whether the letter `x`, in lower case, is a stop.
@@ -183,10 +181,10 @@ fn ends_in_stop(body: &[u16]) -> bool
 }
 
 // The tone of a body whose tone has this key: the key of tone 8 may be shared with another tone, and is tone 8's behind a stop.
-fn shared_or(k: ToneKeys, key: u16, tone: Tone, body: &[u16]) -> Tone
+fn shared_or(k: ToneKeys, key: u8, tone: Tone, body: &[u16]) -> Tone
     ensures { result ≡ shared_or k key tone body.now }
 {
-    if key != k.t8 as u16 {
+    if key != k.t8 {
         tone
     } else if ends_in_stop(body) {
         Tone::T8
@@ -196,26 +194,26 @@ fn shared_or(k: ToneKeys, key: u16, tone: Tone, body: &[u16]) -> Tone
 }
 
 // Which branch a text takes, by its end: the last code point, and the last but one in lower case, as the key is.
-fn edit_by(low: u16, before: u16, end: u16) -> Edit
+fn edit_by(low: u8, before: u16, end: u16) -> Edit
     ensures { result ≡ edit_by low before end }
 {
     match (low, before, end) {
-        (N, _, SMALL_SIGN | CAPITAL_SIGN) => Edit::Last,
-        (U, O, DOT) => Edit::Last,
-        (O, O, DOT) => Edit::Last,
-        (U, _, SMALL_U_DOTS | CAPITAL_U_DOTS) => Edit::LastTwo,
-        (O, O, DOTS) => Edit::LastTwo,
+        (b'n', _, SMALL_SIGN | CAPITAL_SIGN) => Edit::Last,
+        (b'u', O, DOT) => Edit::Last,
+        (b'o', O, DOT) => Edit::Last,
+        (b'u', _, SMALL_U_DOTS | CAPITAL_U_DOTS) => Edit::LastTwo,
+        (b'o', O, DOTS) => Edit::LastTwo,
         _ => Edit::Compose,
     }
 }
 
 // Which branch the text takes whose bytes `text` are, unless the key repeats its tone. Its last two code points tell.
-fn edit_at(key: u16, text: &[u8]) -> Edit
+fn edit_at(key: u8, text: &[u8]) -> Edit
     ensures { (given : List ℕ) → check_points unicode16 (decode text.now) ≡ good given → result ≡ edit_at key given }
 {
     let start = unicode::last_start(text);
     let before = unicode::last_point(&text[..start.0]);
-    edit_by(lower(key), lower(before), unicode::last_point(text))
+    edit_by(lower_byte(key), lower(before), unicode::last_point(text))
 }
 
 // Writes the first `at` bytes of `bytes`, and the key behind them.
@@ -250,11 +248,11 @@ struct Body {
 }
 
 // How many code points a body of `n` has if the key joins it. A space joins none.
-fn grown_len(key: u16, n: usize) -> usize
+fn grown_len(key: u8, n: usize) -> usize
     requires { n < 400 }
     ensures { (key ≡ 0x20 → result ≡ n) × ((key ≡ 0x20 → ⊥) → result ≡ n + 1) × (result ≤ n + 1) }
 {
-    if key == SPACE { n } else { n + 1 }
+    if key == b' ' { n } else { n + 1 }
 }
 
 // A key, which is ASCII, that is typed behind a text of this tone, and the tone keys.
@@ -272,7 +270,7 @@ impl Step {
         ensures { result ≡ repeats_tone self.keys self.key self.tone }
     {
         let before = tone_to_key(self.keys, self.tone);
-        before != SPACE && before == lower(self.key as u16)
+        before != b' ' && before == lower_byte(self.key)
     }
 
     // Which branch a text of this tone takes. It is read only for the keys that open one.
@@ -282,8 +280,8 @@ impl Step {
         if self.repeats_tone() {
             return Edit::Behind;
         }
-        match lower(self.key as u16) {
-            N | O | U => edit_at(self.key as u16, text),
+        match lower_byte(self.key) {
+            b'n' | b'o' | b'u' => edit_at(self.key, text),
             _ => Edit::Compose,
         }
     }
@@ -300,7 +298,7 @@ impl Step {
                 tone: Tone::None,
             };
         }
-        let low = lower(self.key as u16);
+        let low = lower_byte(self.key);
         let named = key_to_tone(self.keys, low);
         if named.is_tone() {
             Body {
@@ -331,8 +329,8 @@ impl Step {
         requires { (n < 400) × (n + 2 < length points.old) × (raw.now ≡ encode (take n points.old ++ (self.key ∷ []))) }
         ensures { text_reply result out.new ≡ placed 0 (encode (composed_of unicode16 self.keys self.key self.tone (take n points.old))) out.old }
     {
-        points[n] = self.key as u16;
-        let body = self.typed(&points[..n + 1], n, grown_len(self.key as u16, n));
+        points[n] = u16::from(self.key);
+        let body = self.typed(&points[..n + 1], n, grown_len(self.key, n));
         let composer = Composer {
             raw,
             tone: body.tone,
@@ -381,7 +379,7 @@ impl Step {
             }
             Edit::LastTwo => {
                 let at = without_last(bytes, without_last(bytes, n));
-                bytes[at] = e_like(self.key as u16) as u8;
+                bytes[at] = e_like(self.key);
                 place_key(bytes, at + 1, self.key, out)
             }
             Edit::Compose => self.compose_in(bytes, n, points, out),

@@ -7,4 +7,4 @@ returns c =
     λ given e.
     let a = c.args in
     c.edit_by.ensures
-    ∙ edit_read a.key given a.text.now e c.lower.ensures c.last_start-start.ensures.0 c.last_point-before.ensures c.lower-2.ensures c.last_point.ensures
+    ∙ edit_read a.key given a.text.now e c.lower_byte.ensures c.last_start-start.ensures.0 c.last_point-before.ensures c.lower.ensures c.last_point.ensures

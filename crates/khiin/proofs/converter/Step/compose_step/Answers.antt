@@ -23,18 +23,21 @@ use Rattle.khiin.proofs.converter.Laws.{key_stored}
 use native.Mathlib.Omega.{arith}
 use Rattle.khiin.proofs.converter.Step.compose_step.Goals as goal
 
-module _ (p : List ℕ) (n key : ℕ) (h : n + 2 < length p) where
+module _ (p : List ℕ) (n x key : ℕ) (same : x ≡ key) (h : n + 2 < length p) where
   abbrev stored : List ℕ
-  stored = set p n key
+  stored = set p n x
 
   abbrev whole : List ℕ
   whole = take (n + 1) stored
 
   size : length whole ≡ n + 1
-  size = length-take-le (n + 1) stored (omega (arith, length-set p n key))
+  size = length-take-le (n + 1) stored (omega (arith, length-set p n x))
 
   front_same : take n whole ≡ take n p
-  front_same = take-take n (n + 1) stored (omega arith) ∙ take-set-le n p n key (omega arith)
+  front_same = take-take n (n + 1) stored (omega arith) ∙ take-set-le n p n x (omega arith)
+
+  key_is : take (n + 1) stored ≡ take n p ++ (key ∷ [])
+  key_is = key_stored p n x (omega arith) ∙ ap (λ (k : ℕ). take n p ++ (k ∷ [])) same
 
   grown_same : (len : ℕ) → (key ≡ 0x20 → len ≡ n) → ((key ≡ 0x20 → ⊥) → len ≡ n + 1) → grown key (take n whole) ≡ take len whole
   grown_same len f g =
@@ -43,7 +46,7 @@ module _ (p : List ℕ) (n key : ℕ) (h : n + 2 < length p) where
       (λ e.
       text_no (eqb key 0x20) _ _ e
       ∙ ap (λ (l : List ℕ). l ++ (key ∷ [])) front_same
-      ∙ sym (key_stored p n key (omega arith))
+      ∙ sym key_is
       ∙ sym (ap (λ (m : ℕ). take m whole) (g (eqb-false key 0x20 e)) ∙ take_all (n + 1) whole (omega (arith, size))))
 
   part_same : (c : ℕ) → c ≤ length whole → take c whole ≡ take c stored
@@ -74,18 +77,18 @@ module _ (p : List ℕ) (n key : ℕ) (h : n + 2 < length p) where
         let e : take c raw ≡ take c (encode typed_text) = ap (take c) is in
         e
         ∙ front_ascii typed_text c (omega (arith, l, size, typed_long)) (subst (λ (u : List ℕ). all_ascii u ≡ true) e ascii)
-        ∙ ap (take c) (sym (key_stored p n key (omega arith)))
+        ∙ ap (take c) (sym key_is)
         ∙ part_same c l
 
 pub typed-body-requires : goal.typed-body-requires
 typed-body-requires c =
-    let s = size c.args.points.now c.args.n c.args.self.key c.requires.1 in
+    let s = size c.args.points.now c.args.n c.from.result c.args.self.key c.from.ensures c.requires.1 in
     (omega (arith, s), omega (arith, s, c.grown_len.ensures.2))
 
 pub slice_bounds-compose_plain-end : goal.slice_bounds-compose_plain-end
 slice_bounds-compose_plain-end c =
-    let s = size c.args.points.now c.args.n c.args.self.key c.requires.1 in
-    let more = raw_long c.args.points.now c.args.n c.args.self.key c.requires.1 c.args.raw.now c.requires.2 in
+    let s = size c.args.points.now c.args.n c.from.result c.args.self.key c.from.ensures c.requires.1 in
+    let more = raw_long c.args.points.now c.args.n c.from.result c.args.self.key c.from.ensures c.requires.1 c.args.raw.now c.requires.2 in
     sym (length-take-le c.typed-body.result.len c.args.raw.now (omega (arith, c.typed-body.ensures.0, s, more)))
 
 pub returns-in-Some : goal.returns-in-Some
@@ -94,20 +97,20 @@ returns-in-Some c =
     let here : List ℕ → Reply = λ l. placed 0 (encode l) a.out.now in
     c.in-Some.ensures.1 _ c.requires.2
     ∙ ap (λ (b : List ℕ). here (compose unicode16 (take a.n a.points.now ++ (a.self.key ∷ [])) b c.typed-body.result.tone No))
-    (body_same a.points.now a.n a.self.key c.requires.1 a.raw.now c.requires.2 c.typed-body.result.len c.typed-body.ensures.0 (c.in-Some.ensures.0 refl))
+    (body_same a.points.now a.n c.from.result a.self.key c.from.ensures c.requires.1 a.raw.now c.requires.2 c.typed-body.result.len c.typed-body.ensures.0 (c.in-Some.ensures.0 refl))
     ∙ ap here
-    (step_text a.points.now a.n a.self.key c.requires.1 a.self.keys a.self.tone _ _ _ c.grown_len.ensures.0 c.grown_len.ensures.1 c.typed-body.ensures.0 c.typed-body.ensures.1)
+    (step_text a.points.now a.n c.from.result a.self.key c.from.ensures c.requires.1 a.self.keys a.self.tone _ _ _ c.grown_len.ensures.0 c.grown_len.ensures.1 c.typed-body.ensures.0 c.typed-body.ensures.1)
 
 pub compose_points-requires : goal.compose_points-requires
 compose_points-requires c =
-    let s = size c.args.points.now c.args.n c.args.self.key c.requires.1 in
-    (omega (arith, s, c.typed-body.ensures.0, c.requires.0), omega (arith, s, c.typed-body.ensures.0, c.requires.1, length-set c.args.points.now c.args.n c.args.self.key))
+    let s = size c.args.points.now c.args.n c.from.result c.args.self.key c.from.ensures c.requires.1 in
+    (omega (arith, s, c.typed-body.ensures.0, c.requires.0), omega (arith, s, c.typed-body.ensures.0, c.requires.1, length-set c.args.points.now c.args.n c.from.result))
 
 pub returns : goal.returns
 returns c =
     let a = c.args in
-    let text = compose unicode16 (take a.n a.points.now ++ (a.self.key ∷ [])) (take c.typed-body.result.len (stored a.points.now a.n a.self.key c.requires.1)) c.typed-body.result.tone No in
+    let text = compose unicode16 (take a.n a.points.now ++ (a.self.key ∷ [])) (take c.typed-body.result.len (stored a.points.now a.n c.from.result a.self.key c.from.ensures c.requires.1)) c.typed-body.result.tone No in
     c.compose_points.ensures _ c.requires.2
     ∙ ap (placed 0 (encode text)) (c.in_default.ensures.1 _ c.requires.2)
     ∙ ap (λ (l : List ℕ). placed 0 (encode l) a.out.now)
-    (step_text a.points.now a.n a.self.key c.requires.1 a.self.keys a.self.tone _ _ _ c.grown_len.ensures.0 c.grown_len.ensures.1 c.typed-body.ensures.0 c.typed-body.ensures.1)
+    (step_text a.points.now a.n c.from.result a.self.key c.from.ensures c.requires.1 a.self.keys a.self.tone _ _ _ c.grown_len.ensures.0 c.grown_len.ensures.1 c.typed-body.ensures.0 c.typed-body.ensures.1)

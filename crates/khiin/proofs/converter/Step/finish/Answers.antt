@@ -50,9 +50,6 @@ without_last-requires c = omega (arith, c.requires.0)
 pub without_last-at-requires-in-LastTwo : goal.without_last-at-requires-in-LastTwo
 without_last-at-requires-in-LastTwo c = omega (arith, c.without_last.ensures.1, c.requires.0)
 
-pub overflow_cast-bytes : goal.overflow_cast-bytes
-overflow_cast-bytes c = omega (arith, c.e_like.ensures, e_small c.args.self.key)
-
 pub bounds-bytes-at : goal.bounds-bytes-at
 bounds-bytes-at c = omega (arith, c.without_last-at-in-LastTwo.ensures.1, c.without_last.ensures.1, c.requires.0)
 
