@@ -1,4 +1,5 @@
-// Reads one entry from standard input and prints its keyings.
+// Reads one entry from standard input and prints its keyings. `keylist_empty`, `keylist_four` and `keylist_refused` are the same four lines: a program
+// stands beside one input that it is run on.
 #![tactic(auto)]
 
 use std::process::ExitCode;

@@ -11,7 +11,8 @@ use ji::reply::{self, Refusal};
 use ji::tone::Tone;
 use ji::unicode::ByteLen;
 
-// The tone that a key is, None of any key but 1 to 9.
+// The tone that a key is, None of any key but 1 to 9. Through a function from numbers to tones, as `robinflint` has one for C's, a key would be tested
+// and made a number first, and a law would have to join what document 01 says of keys to what it says of C's numbers.
 #[tactic(auto, unfolding(crate::specs::Syllable::key_tone))]
 fn key_tone(key: u8) -> Tone
     ensures { result ≡ key_tone key }

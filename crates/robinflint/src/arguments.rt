@@ -1,5 +1,5 @@
-// The numbers that a caller passes, as the libraries have them. A call checks its numbers before it turns them. They are functions and no impls of
-// From, since ji and khiin, whose enums these are, know no numbers of C.
+// The numbers that a caller passes, as the libraries have them. A call asks of all its numbers at once whether document 01 names them, and turns them
+// then. These functions answer for every number, and are public: a `TryFrom` beside them would be each table twice, with an error that never comes.
 ghost use Rattle.std.specs.Prelude.{◌≡◌};
 ghost use Rattle.robinflint.specs.Arguments.{tone_of, khin_of, kind_of, mode_of, keys_of};
 

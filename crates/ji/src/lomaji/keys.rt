@@ -65,6 +65,7 @@ fn respell_nasals(src: &[u16], out: &mut [u16]) -> usize
 }
 
 // The last two: o and u with U+0324, in place again.
+#[tactic(auto, unfolding(crate::specs::Text::replace_all))]
 fn respell_below(s: &mut [u16])
     ensures { s.new ≡ respell (drop 4 plain_rules) s.old }
 {

@@ -22,6 +22,7 @@ impl Khin {
 
 // Whether `text` begins with two hyphens, or with U+00B7, which is two bytes as well. `strip_khin` and `khin_of` each ask, since each is public with
 // a clause of its own.
+#[tactic(auto, unfolding(crate::specs::Text::begins, crate::specs::Utf8::encode, crate::specs::Utf8::bytes_of))]
 fn has_mark(text: &[u8]) -> bool
     ensures { result ≡ (begins (bytes "--") text.now || begins (bytes "·") text.now) }
 {
@@ -36,6 +37,7 @@ pub fn strip_khin(text: &[u8]) -> &[u8]
 }
 
 // Whether `text` has the mark that `strip_khin` removes.
+#[tactic(auto, unfolding(crate::specs::Lomaji::Khin::khin_of))]
 pub fn khin_of(text: &[u8]) -> Khin
     ensures { result ≡ khin_of text.now }
 {
