@@ -103,6 +103,7 @@ fn keys_in(mode: ToneMode, k: ToneKeys) -> ToneKeys
 }
 
 // The tone of a key, None of any other. The keys are no constants, which a `match` would need.
+#[tactic(auto, unfolding(crate::specs::Converter::key_to_tone))]
 fn key_to_tone(k: ToneKeys, key: u8) -> Tone
     ensures { result ≡ key_to_tone k key }
 {
@@ -147,6 +148,7 @@ fn tone_to_key(k: ToneKeys, tone: Tone) -> u8
 }
 
 // e, in the case of the key.
+#[tactic(auto, unfolding(ji::specs::Text::lower))]
 fn e_like(key: u8) -> u8
     ensures { result ≡ e_like key }
 {
@@ -154,6 +156,7 @@ fn e_like(key: u8) -> u8
 }
 
 // Whether the letter `x`, in lower case, is a stop.
+#[tactic(auto, unfolding(ji::specs::Unicode::listed))]
 fn is_stop(x: u16) -> bool
     ensures { result ≡ listed (points_of "ptkh") x }
 {
@@ -181,6 +184,7 @@ fn ends_in_stop(body: &[u16]) -> bool
 }
 
 // The tone of a body whose tone has this key: the key of tone 8 may be shared with another tone, and is tone 8's behind a stop.
+#[tactic(auto, unfolding(crate::specs::Converter::shared_or, crate::specs::Converter::shared_tone))]
 fn shared_or(k: ToneKeys, key: u8, tone: Tone, body: &[u16]) -> Tone
     ensures { result ≡ shared_or k key tone body.now }
 {
@@ -194,6 +198,7 @@ fn shared_or(k: ToneKeys, key: u8, tone: Tone, body: &[u16]) -> Tone
 }
 
 // Which branch a text takes, by its end: the last code point, and the last but one in lower case, as the key is.
+#[tactic(auto, unfolding(crate::specs::Telex::edit_by))]
 fn edit_by(low: u8, before: u16, end: u16) -> Edit
     ensures { result ≡ edit_by low before end }
 {
@@ -266,6 +271,7 @@ struct Step {
 
 impl Step {
     // Whether the key of the text's tone is typed again.
+    #[tactic(auto, unfolding(crate::specs::Converter::repeats_tone))]
     fn repeats_tone(self) -> bool
         ensures { result ≡ repeats_tone self.keys self.key self.tone }
     {
@@ -274,6 +280,7 @@ impl Step {
     }
 
     // Which branch a text of this tone takes. It is read only for the keys that open one.
+    #[tactic(auto, unfolding(crate::specs::Telex::edit_of, ji::specs::Utf8::decode))]
     fn edit_of(self, text: &[u8]) -> Edit
         ensures { (given : List ℕ) → check_points unicode16 (decode text.now) ≡ good given → result ≡ edit_of self.keys self.key self.tone given }
     {
@@ -288,6 +295,7 @@ impl Step {
 
     // The body and the tone when a key is typed behind the stripped text, with which `whole` begins; `len` is its length if the key joins it.
     // Two slices would be no plainer: both are parts of one text, and `whole` says so.
+    #[tactic(auto, unfolding(crate::specs::Telex::composed_of, crate::specs::Syllable::compose))]
     fn typed(self, whole: &[u16], n: usize, len: usize) -> Body
         requires { (n ≤ length whole.now) × (len ≤ length whole.now) }
         ensures { (result.len ≤ length whole.now) × (grown self.key (take n whole.now) ≡ take len whole.now → composed_of unicode16 self.keys self.key self.tone (take n whole.now) ≡ compose unicode16 (take n whole.now ++ (self.key ∷ [])) (take result.len whole.now) result.tone Khin.No) }
@@ -319,6 +327,7 @@ impl Step {
     }
 
     // Composes the stripped text anew, which stands in the first `n` places of `points`. `raw` are the bytes of it and the key.
+    #[tactic(auto, unfolding(ji::specs::Utf8::encode, crate::specs::Telex::composed_of))]
     fn compose_step(
         self,
         raw: &[u8],
@@ -360,6 +369,7 @@ impl Step {
 
     // Writes what a branch makes of the stripped text, the first `n` of `bytes`. A match: the definition names Edit, and a closure for
     // each branch would hide which it is.
+    #[tactic(auto, unfolding(ji::specs::Utf8::encode, ji::specs::Text::but_last, ji::specs::Text::lower, crate::specs::Telex::composed_of, crate::specs::Converter::step))]
     fn finish(
         self,
         edit: Edit,

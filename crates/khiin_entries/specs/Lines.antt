@@ -41,11 +41,11 @@ letter_of Detoned = point "D"
 unfoldable pub line_in : ℕ → Layout → ℕ → List ℕ
 line_in letter layout position =
     (letter ∷ 0x20 ∷ [])
-    ++ (number_then position 0x20 ++ (keying_in layout.forms.now layout.offsets layout.lengths layout.radices layout.parts position ++ (0x0A ∷ [])))
+    ++ (number_then position 0x20 ++ (keying_in layout.forms.now layout.choices.now.offsets layout.choices.now.lengths layout.choices.now.radices layout.parts position ++ (0x0A ∷ [])))
 
 -- the lines of a kind
 unfoldable pub lines_in : ℕ → Layout → List (List ℕ)
-lines_in letter layout = up_to (line_in letter layout) (count_in layout.radices layout.parts)
+lines_in letter layout = up_to (line_in letter layout) (count_in layout.choices.now.radices layout.parts)
 
 -- ── many lines
 -- `text` stands from `at` on and ends at `end`; before and behind it the buffer is as it was

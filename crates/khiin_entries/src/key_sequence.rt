@@ -6,7 +6,7 @@ ghost use Rattle.ji.specs.Reply.{good, bad, check_text};
 ghost use Rattle.khiin_entries.specs.Choices.{points_of, form_bytes, is_toned, part_count, row_one, row_two, RowOf, Room, Entry, laid_out, choices_in, count_in, keying_in, laid_reply};
 ghost use Rattle.khiin_entries.specs.KeySequence.{check_entry, keying_call, keying_reply};
 
-use crate::layout::Layout;
+use crate::layout::{Choices, Layout, NO_CHOICES};
 use ji::lomaji::dot::holds_dot;
 use ji::lomaji::keys;
 use ji::lomaji::keys::{Form, Kind};
@@ -137,6 +137,7 @@ fn lay_part(part: &[u8], kind: Kind, forms: &mut [u8], at: usize) -> Row
     }
 }
 
+#[tactic(auto, unfolding(ji::specs::Reply::check_text, crate::specs::Choices::points_of))]
 fn lay_row(part: &[u8], single: bool, kind: Kind, forms: &mut [u8], at: usize) -> Row
     requires { Room part.now forms.old at }
     ensures { RowOf unicode16 single kind part.now at forms.old forms.new result }
@@ -149,35 +150,35 @@ fn lay_row(part: &[u8], single: bool, kind: Kind, forms: &mut [u8], at: usize) -
 }
 
 // Lays out the parts of an entry, with their forms in `forms`.
-pub(crate) fn lay_out<'a>(parted: &Parted, kind: Kind, forms: &'a mut [u8]) -> Layout<'a>
-    requires { (5 * length parted.now.entry.now + 32 ≤ length forms.old) × (length forms.old ≤ 65535) }
-    ensures { (result.parts ≡ parted.now.parts) × (laid_out result.forms.now result.offsets result.lengths result.radices result.parts ≡ choices_in unicode16 kind parted.now.entry.now) }
+pub(crate) fn lay_out<'a>(
+    parted: &Parted,
+    kind: Kind,
+    choices: &'a mut Choices,
+    forms: &'a mut [u8],
+) -> Layout<'a>
+    requires { (5 * length parted.now.entry.now + 32 ≤ length forms.old) × (length forms.old ≤ 65535) × (length choices.old.offsets ≡ 16) × (length choices.old.lengths ≡ 16) × (length choices.old.radices ≡ 16) }
+    ensures { (result.parts ≡ parted.now.parts) × (laid_out result.forms.now result.choices.now.offsets result.choices.now.lengths result.choices.now.radices result.parts ≡ choices_in unicode16 kind parted.now.entry.now) }
 {
-    let mut offsets = [[0u16; 4]; 16];
-    let mut lengths = [[0u16; 4]; 16];
-    let mut radices = [0u8; 16];
     let mut used: usize = 0;
     for (i, part) in parted.entry.split(|b| *b == b' ').enumerate() {
         let row = lay_row(part, parted.parts == 1, kind, forms, used);
         // The arrays go through variables, for so the borrow checker covers their stores.
         let (starts, sizes) = (row.offsets, row.lengths);
-        offsets[i] = starts;
-        lengths[i] = sizes;
-        radices[i] = row.radix;
+        choices.offsets[i] = starts;
+        choices.lengths[i] = sizes;
+        choices.radices[i] = row.radix;
         used = row.end;
     }
     Layout {
         forms,
-        offsets,
-        lengths,
-        radices,
+        choices,
         parts: parted.parts,
     }
 }
 
 // The keying at a position, written to `out`, from the layout of an entry.
 fn place(layout: &Layout, position: u64, out: &mut [u8]) -> Result<KeyingResult, Refusal>
-    ensures { keying_reply result out.new ≡ laid_reply (count_in layout.now.radices layout.now.parts) (keying_in layout.now.forms.now layout.now.offsets layout.now.lengths layout.now.radices layout.now.parts position) position out.old }
+    ensures { keying_reply result out.new ≡ laid_reply (count_in layout.now.choices.now.radices layout.now.parts) (keying_in layout.now.forms.now layout.now.choices.now.offsets layout.now.choices.now.lengths layout.now.choices.now.radices layout.now.parts position) position out.old }
 {
     let count = layout.count();
     if count <= position {
@@ -204,8 +205,9 @@ fn keying_with<const N: usize>(
     requires { (5 * length parted.now.entry.now + 32 ≤ N) × (N ≤ 65535) }
     ensures { keying_reply result out.new ≡ keying_call unicode16 parted.now.entry.now kind position out.old }
 {
+    let mut choices = NO_CHOICES;
     let mut forms = [0u8; N];
-    let layout = lay_out(parted, kind, &mut forms);
+    let layout = lay_out(parted, kind, &mut choices, &mut forms);
     place(&layout, position, out)
 }
 

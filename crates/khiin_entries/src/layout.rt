@@ -4,17 +4,30 @@ ghost use Rattle.std.specs.Prelude.{◌≡◌, ℕ, ◌+◌, ◌-◌, ◌/◌, �
 ghost use Rattle.std.proofs.Math.Seq.{paste};
 ghost use Rattle.khiin_entries.specs.Choices.{Radix, Laid, count_in, length_in, keying_in};
 
-// At most sixteen parts. Of each part's choices `offsets` says where they stand in `forms`, and `lengths` how many bytes they have; its radix says how
-// many they are. By a rule of the project the places and lengths of each part and choice stand in arrays of arrays by value.
+// Of each part's choices `offsets` says where they stand, and `lengths` how many bytes they have; its radix says how many they are. By a rule of the
+// project the places and lengths of each part and choice stand in arrays of arrays by value.
 #[derive(Clone, Copy)]
-pub(crate) struct Layout<'a> {
-    pub forms: &'a [u8],
+pub(crate) struct Choices {
     pub offsets: [[u16; 4]; 16],
     pub lengths: [[u16; 4]; 16],
     pub radices: [u8; 16],
+}
+
+// The choices of no part.
+pub(crate) const NO_CHOICES: Choices = Choices {
+    offsets: [[0; 4]; 16],
+    lengths: [[0; 4]; 16],
+    radices: [0; 16],
+};
+
+// At most sixteen parts, whose choices stand in `forms`. They are borrowed, since to hand on 272 bytes takes a keying of two parts a fifth of its time.
+#[derive(Clone, Copy)]
+pub(crate) struct Layout<'a> {
+    pub forms: &'a [u8],
+    pub choices: &'a Choices,
     pub parts: usize,
     ghost few: { parts ≤ 16 },
-    ghost laid: { Laid offsets lengths radices parts (length forms.now) },
+    ghost laid: { Laid choices.now.offsets choices.now.lengths choices.now.radices parts (length forms.now) },
 }
 
 // The lowest digit of a position, and what is left of the position.
@@ -45,27 +58,39 @@ fn digit_of(position: u64, radix: u8) -> Digit
     }
 }
 
+// Writes `src` at `at`, a byte at a time. With `copy_from_slice` keyings of two parts take more than twice the hand-tuned time: it reads several bytes at
+// once, which waits for the stores of each of them.
+fn put(src: &[u8], out: &mut [u8], at: usize)
+    requires { at + length src.now ≤ length out.old }
+    ensures { out.new ≡ paste out.old at src.now (length src.now) }
+{
+    for (i, &b) in src.iter().enumerate() {
+        out[at + i] = b;
+    }
+}
+
 impl<'a> Layout<'a> {
     // How many keyings there are. As a chain that ends in `product` it did not prove: the product of every run of the radices has to be shown to fit.
     pub(crate) fn count(&self) -> u64
-        ensures { (result ≡ count_in self.now.radices self.now.parts) × (result ≤ 4294967296) }
+        ensures { (result ≡ count_in self.now.choices.now.radices self.now.parts) × (result ≤ 4294967296) }
     {
         let mut count: u64 = 1;
-        for radix in &self.radices[..self.parts] {
+        for radix in &self.choices.radices[..self.parts] {
             count *= u64::from(*radix);
         }
         count
     }
 
     // How many bytes the keying at a position has.
+    #[tactic(auto, unfolding(crate::specs::Choices::length_in))]
     pub(crate) fn length_at(&self, position: u64) -> usize
-        ensures { (result ≡ length_in self.now.lengths self.now.radices self.now.parts position) × (result ≤ 1048560) }
+        ensures { (result ≡ length_in self.now.choices.now.lengths self.now.choices.now.radices self.now.parts position) × (result ≤ 1048560) }
     {
         let mut left = position;
         let mut length: usize = 0;
         for i in (0..self.parts).rev() {
-            let digit = digit_of(left, self.radices[i]);
-            length += usize::from(self.lengths[i][digit.value]);
+            let digit = digit_of(left, self.choices.radices[i]);
+            length += usize::from(self.choices.lengths[i][digit.value]);
             left = digit.rest;
         }
         length
@@ -73,17 +98,17 @@ impl<'a> Layout<'a> {
 
     // Writes the keying at a position, so that it ends at `end`.
     pub(crate) fn write_at(&self, position: u64, out: &mut [u8], end: usize)
-        requires { (length_in self.now.lengths self.now.radices self.now.parts position ≤ end) × (end ≤ length out.old) }
-        ensures { out.new ≡ paste out.old (end - length_in self.now.lengths self.now.radices self.now.parts position) (keying_in self.now.forms.now self.now.offsets self.now.lengths self.now.radices self.now.parts position) (length_in self.now.lengths self.now.radices self.now.parts position) }
+        requires { (length_in self.now.choices.now.lengths self.now.choices.now.radices self.now.parts position ≤ end) × (end ≤ length out.old) }
+        ensures { out.new ≡ paste out.old (end - length_in self.now.choices.now.lengths self.now.choices.now.radices self.now.parts position) (keying_in self.now.forms.now self.now.choices.now.offsets self.now.choices.now.lengths self.now.choices.now.radices self.now.parts position) (length_in self.now.choices.now.lengths self.now.choices.now.radices self.now.parts position) }
     {
         let mut left = position;
         let mut at = end;
         for i in (0..self.parts).rev() {
-            let digit = digit_of(left, self.radices[i]);
-            let from = usize::from(self.offsets[i][digit.value]);
-            let length = usize::from(self.lengths[i][digit.value]);
+            let digit = digit_of(left, self.choices.radices[i]);
+            let from = usize::from(self.choices.offsets[i][digit.value]);
+            let length = usize::from(self.choices.lengths[i][digit.value]);
             at -= length;
-            out[at..at + length].copy_from_slice(&self.forms[from..from + length]);
+            put(&self.forms[from..from + length], out, at);
             left = digit.rest;
         }
     }

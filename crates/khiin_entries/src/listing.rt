@@ -8,7 +8,7 @@ ghost use Rattle.khiin_entries.specs.Listing.{decimal, listing, together, shown}
 ghost use Rattle.khiin_entries.specs.Lines.{number_then, header_line, refusal_line, dotted_in, line_in, lines_in, Put, Shown, Following};
 
 use crate::key_sequence::{Parted, lay_out, parts_of};
-use crate::layout::Layout;
+use crate::layout::{Layout, NO_CHOICES};
 use ji::lomaji::dot::holds_dot;
 use ji::lomaji::keys::Kind;
 use ji::reply::Refusal;
@@ -54,7 +54,7 @@ fn put_line(
     out: &mut [u8],
     at: usize,
 ) -> usize
-    requires { (n ≡ length_in layout.now.lengths layout.now.radices layout.now.parts position) × (at + (length (decimal position) + n + 4) ≤ length out.old) }
+    requires { (n ≡ length_in layout.now.choices.now.lengths layout.now.choices.now.radices layout.now.parts position) × (at + (length (decimal position) + n + 4) ≤ length out.old) }
     ensures { Put out.old out.new at (line_in letter layout.now position) result }
 {
     out[at] = letter;
@@ -160,9 +160,22 @@ fn list_entry(parted: &Parted, from: u64, out: &mut [u8]) -> Listed
     let mut numeric_forms = [0u8; 5152];
     let mut telex_forms = [0u8; 5152];
     let mut detoned_forms = [0u8; 5152];
-    let numeric = lay_out(parted, Kind::Numeric, &mut numeric_forms);
-    let telex = lay_out(parted, Kind::Telex, &mut telex_forms);
-    let detoned = lay_out(parted, Kind::Detoned, &mut detoned_forms);
+    let mut numeric_choices = NO_CHOICES;
+    let mut telex_choices = NO_CHOICES;
+    let mut detoned_choices = NO_CHOICES;
+    let numeric = lay_out(
+        parted,
+        Kind::Numeric,
+        &mut numeric_choices,
+        &mut numeric_forms,
+    );
+    let telex = lay_out(parted, Kind::Telex, &mut telex_choices, &mut telex_forms);
+    let detoned = lay_out(
+        parted,
+        Kind::Detoned,
+        &mut detoned_choices,
+        &mut detoned_forms,
+    );
     let dots = count_dotted(parted.entry);
     let numeric_count = numeric.count();
     let telex_count = telex.count();

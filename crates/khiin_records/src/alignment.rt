@@ -22,6 +22,7 @@ use ji::reply::Refusal;
 use ji::unicode;
 
 // Whether two bytes are the same, ASCII case ignored. Most that are compared are the very same, so that this is asked first.
+#[tactic(auto, unfolding(ji::specs::Text::lower))]
 fn same_key(a: u8, b: u8) -> bool
     ensures { result ≡ eqb (lower_of a) (lower_of b) }
 {
@@ -39,6 +40,7 @@ fn shared_prefix(keys: &[u8], s: &[u8]) -> usize
 }
 
 // How many keys are shared with the candidate of a stripped text that has `vowel` for U+0358. `letters` is used up.
+#[tactic(auto, unfolding(crate::specs::Alignment::shared_prefix, crate::specs::RawBytes::body_of, ji::specs::Text::replace_all))]
 fn candidate_prefix(keys: &[u8], text: Stripped, vowel: u8, letters: &mut [u8]) -> usize
     requires { length text.rest.now + 2 ≤ length letters.old }
     ensures { result ≡ shared_prefix keys.now ((body_of vowel text.entry.rest.now).text ++ keys_of text.entry.ending) }
@@ -84,6 +86,7 @@ fn spelled_within<const N: usize>(keys: Keys, text: Stripped) -> usize
 }
 
 // Whether the key at `at` is the byte `x` of a raw input: whether the prefix goes on there.
+#[tactic(auto, unfolding(crate::specs::Alignment::shared_prefix))]
 fn is_key_at(keys: &[u8], at: usize, x: u8) -> bool
     ensures { (s : List ℕ) → shared_prefix (drop at keys.now) (x ∷ s) ≡ pick_number result (suc (shared_prefix (drop (at + 1) keys.now) s)) 0 }
 {
@@ -101,6 +104,7 @@ fn khin_prefix(keys: &[u8], at: usize, khin: Khin) -> usize
 }
 
 // How many of the keys from `at` on are shared with the tone digit and the 0 for khin.
+#[tactic(auto, unfolding(crate::specs::Alignment::shared_prefix, ji::specs::Text::replace_all))]
 fn digits_prefix(keys: &[u8], at: usize, ending: Ending) -> usize
     requires { at ≤ length keys.now }
     ensures { result ≡ shared_prefix (drop at keys.now) (keys_of ending) }
@@ -170,6 +174,7 @@ fn align_stripped(keys: Keys, text: Stripped) -> usize
 
 // The record of the keys that are aligned with a target that is not empty, with N bytes for the stripped target: at most five for
 // each two of the target.
+#[tactic(auto, unfolding(ji::specs::Utf8::encode, crate::specs::Syllable::from_raw, crate::specs::Alignment::aligned, ji::specs::Reply::check_text))]
 fn align_within<const N: usize>(
     keys: Keys,
     target: &[u8],
@@ -201,6 +206,7 @@ fn align(keys: Keys, target: &[u8], out: &mut [u8]) -> Result<Record, Refusal>
 }
 
 // The record of the keys that were typed for the syllable `target`, which stand in `out`: no keys where there is no alignment.
+#[tactic(auto, unfolding(crate::specs::Alignment::align_call))]
 pub fn from_conversion_alignment(
     keys: &[u8],
     target: &[u8],

@@ -169,6 +169,7 @@ fn default_at(position: u64, out: &mut [u8]) -> Result<Record, Refusal>
 }
 
 // Whether the bytes `a` and `b` stand at `at`. It is asked of each byte of a text: `starts_with` would make a slice first.
+#[tactic(auto, unfolding(ji::specs::Text::begins))]
 fn is_pair(s: &[u8], at: usize, a: u8, b: u8) -> bool
     requires { at < length s.now }
     ensures { result ≡ begins (a ∷ b ∷ []) (drop at s.now) }
@@ -247,6 +248,7 @@ fn copy_ascii(s: &[u8], out: &mut [u8]) -> usize
 
 // Goes on from `start`, where all before is copied. U+0324 takes back the letter that was written before it. A `while`, since each turn goes on by the
 // bytes of what it has read, one to three.
+#[tactic(auto, unfolding(crate::specs::RawBytes::body_of, crate::specs::RawBytes::body_from))]
 fn spell_rest(s: &[u8], start: usize, vowel: u8, out: &mut [u8]) -> Spelled
     requires { (length s.now ≤ length out.old) × Walking vowel s.now out.old out.old start start 1 }
     ensures { (start ≤ result.len) × Written out.old out.new result.len (body_of vowel s.now).text × (result.len ≤ length s.now)
@@ -347,6 +349,7 @@ fn candidate_stripped(text: Stripped, position: u64, out: &mut [u8]) -> Result<R
 }
 
 // The candidate at the position of a text that is not empty, with N bytes for the stripped text: at most five for each two of the text.
+#[tactic(auto, unfolding(crate::specs::Syllable::candidate_call))]
 fn candidate_within<const N: usize>(
     text: &[u8],
     position: u64,

@@ -32,6 +32,7 @@ fn key_tone(key: u8) -> Tone
 }
 
 // The tone that the last of the keys is. Where there are none it is None as well.
+#[tactic(auto, unfolding(crate::specs::Syllable::key_tone, ji::specs::Text::last))]
 fn last_tone(s: &[u8]) -> Tone
     ensures { result ≡ key_tone (last s.now) }
 {
@@ -66,6 +67,7 @@ pub(crate) fn place_keys(keys: &[u8], out: &mut [u8]) -> Result<Record, Refusal>
 }
 
 // The record of `keys`.
+#[tactic(auto, unfolding(crate::specs::Syllable::from_raw, crate::specs::Syllable::from_raw_call))]
 pub fn from_raw(keys: &[u8], out: &mut [u8]) -> Result<Record, Refusal>
     ensures { record_reply result out.new ≡ from_raw_call keys.now out.old }
 {

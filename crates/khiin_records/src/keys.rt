@@ -17,6 +17,7 @@ impl<'a> Keys<'a> {
     ghost use Rattle.khiin_records.specs.Keys.{keys_checked};
 
     // The keys, refused where they are too long or hold a byte above 7F.
+    #[tactic(auto, unfolding(crate::specs::Syllable::check_keys))]
     pub(crate) fn of(bytes: &'a [u8]) -> Result<Keys<'a>, Refusal>
         ensures { keys_checked result ≡ check_keys bytes.now }
     {

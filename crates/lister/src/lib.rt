@@ -37,6 +37,7 @@ impl fmt::Display for Failure {
 }
 
 // The text without one final newline.
+#[tactic(auto, unfolding(crate::specs::Text::without_newline))]
 fn without_newline(text: &[u8]) -> &[u8]
     ensures { result.now ≡ without_newline text.now }
 {

@@ -9,6 +9,7 @@ use ji::tone::Tone;
 use khiin::converter::{ToneKeys, ToneMode};
 
 // The tone of a number, None of any number above 9.
+#[tactic(auto, unfolding(crate::specs::Arguments::tone_of))]
 pub fn tone_of(number: u64) -> Tone
     ensures { result ≡ tone_of number }
 {

@@ -35,6 +35,7 @@ pub fn wb_nfc(text: &[u8], out: &mut [u8]) -> Reply
 }
 
 // What `strip_khin` hands back: the length of the rest, where it begins, and whether there was a mark.
+#[tactic(auto, unfolding(ji::specs::Lomaji::Khin::after_khin, ji::specs::Lomaji::Khin::khin_of))]
 pub fn wb_strip_khin(text: &[u8]) -> Reply
     ensures { reply_of result [] ≡ khin_call text.now }
 {
@@ -80,6 +81,7 @@ fn form_of(number: u64) -> Form
 
 // The lines of an entry's listing from number `from` on, as many as go into `out` whole: as the length how many bytes, as the count how many lines,
 // and as the position the number of the next line. An entry that is refused has one line, which says so.
+#[tactic(auto, unfolding(khiin_entries::specs::Listing::shown))]
 pub fn wb_listing(entry: &[u8], from: u64, out: &mut [u8]) -> Reply
     ensures { reply_of result out.new ≡ listing_call entry.now from out.old }
 {

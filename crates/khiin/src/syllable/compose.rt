@@ -32,6 +32,7 @@ fn at(s: &[u16], i: usize) -> u16
 }
 
 // Whether a pair of vowels that is replaced stands at `i`.
+#[tactic(auto, unfolding(crate::specs::Compose::is_pair))]
 fn is_pair(s: &[u16], i: usize) -> bool
     requires { i < length s.now }
     ensures { result ≡ is_pair (drop i s.now) }
@@ -111,6 +112,7 @@ fn respell_vowels(s: &mut [u16])
 }
 
 // The letters that nn may follow at the end of a text, in lower case.
+#[tactic(auto, unfolding(ji::specs::Unicode::listed))]
 fn takes_nasal(c: u16) -> bool
     ensures { result ≡ listed (marked "aeiouptkhm" 0x0358) c }
 {
@@ -118,6 +120,7 @@ fn takes_nasal(c: u16) -> bool
 }
 
 // Whether the text ends in such a letter and nn.
+#[tactic(auto, unfolding(crate::specs::Syllable::ends_nasal, crate::specs::Syllable::is_nasal_end))]
 fn ends_nasal(s: &[u16]) -> bool
     ensures { result ≡ ends_nasal s.now }
 {
@@ -126,6 +129,7 @@ fn ends_nasal(s: &[u16]) -> bool
 }
 
 // Replaces each `a` `b` by `c`, in place, and returns how many code points are left. The walk goes on by one or by two, which no `for` does.
+#[tactic(auto, unfolding(ji::specs::Text::replace_all, ji::specs::Text::replace_from))]
 fn shrink_pair(s: &mut [u16], a: u16, b: u16, c: u16) -> usize
     ensures { Written s.old s.new result (replace_all (a ∷ b ∷ []) (c ∷ []) s.old) }
 {
@@ -161,6 +165,7 @@ fn take_out(s: &mut [u16], c: u16) -> usize
 }
 
 // The four nasal rules, in place.
+#[tactic(auto, unfolding(ji::specs::Text::replace_all))]
 fn respell_nasals(s: &mut [u16]) -> usize
     ensures { Front s.new result (respell nasal_rules s.old) }
 {
@@ -172,6 +177,7 @@ fn respell_nasals(s: &mut [u16]) -> usize
 
 // Whether nn, case ignored, stands anywhere in `s` but at its end. `windows(2)` over all but the last code point is no plainer: the empty text would
 // need a case.
+#[tactic(auto, unfolding(crate::specs::Compose::is_nasal_pair))]
 fn has_nasal(s: &[u16]) -> bool
     ensures { result ≡ false → NoNasalBefore s.now }
 {
@@ -184,6 +190,7 @@ fn has_nasal(s: &[u16]) -> bool
 }
 
 // The nasal rules where nn stands at the end only: the sign takes its place.
+#[tactic(auto, unfolding(crate::specs::Syllable::ends_nasal, crate::specs::Syllable::is_nasal_end, crate::specs::Compose::is_nasal_pair, ji::specs::Text::lower, ji::specs::Text::begins, ji::specs::Text::replace_all, ji::specs::Text::replace_from))]
 fn end_in_sign(s: &mut [u16]) -> usize
     requires { (ends_nasal s.old ≡ true) × NoNasalBefore s.old }
     ensures { Front s.new result (respell nasal_rules s.old) }
@@ -199,6 +206,7 @@ fn end_in_sign(s: &mut [u16]) -> usize
 }
 
 // The nasal rules, where the text ends as they ask.
+#[tactic(auto, unfolding(crate::specs::Syllable::nasalised))]
 fn nasalise(s: &mut [u16]) -> usize
     ensures { Front s.new result (nasalised s.old) }
 {
@@ -244,6 +252,7 @@ struct Settled {
 }
 
 // The moves to the end. A text with no sign before its end has nothing to move.
+#[tactic(auto, unfolding(crate::specs::Syllable::moved))]
 fn move_signs(s: &mut [u16]) -> Settled
     ensures { SettledAs s.new (moved 0x1D3A (moved 0x207F s.old)) result }
 {
@@ -260,6 +269,7 @@ fn move_signs(s: &mut [u16]) -> Settled
 }
 
 // The vowel rules, the nasal rules and the moves to the end.
+#[tactic(auto, unfolding(crate::specs::Compose::settled_body))]
 fn settle(s: &mut [u16]) -> Settled
     ensures { SettledAs s.new (settled_body s.old) result }
 {
@@ -269,6 +279,7 @@ fn settle(s: &mut [u16]) -> Settled
 }
 
 // Whether U+0358 goes behind the code point at `i`, by one of the O rules.
+#[tactic(auto, unfolding(crate::specs::Compose::takes_dot, ji::specs::Text::begins))]
 fn takes_dot(s: &[u16], i: usize) -> bool
     requires { i < length s.now }
     ensures { result ≡ takes_dot (drop i s.now) }
@@ -345,6 +356,7 @@ fn put_dot(s: &mut [u16], n: usize) -> usize
 }
 
 // Writes `s` by the O rules, behind what khin puts there, to the front of `out`.
+#[tactic(auto, unfolding(ji::specs::Text::replace_all, crate::specs::Syllable::spelled))]
 fn write_whole(khin: Khin, s: &[u16], out: &mut [u16]) -> usize
     requires { 2 * length s.now + 2 ≤ length out.old }
     ensures { Front out.new result (khin_text khin ++ respell o_rules s.now) × (result ≤ 2 * length s.now + 2) }
@@ -388,6 +400,7 @@ impl Composer<'_> {
 
     // Writes the text that the first `n` code points of `s`, a spelled text, have with the mark of the tone; or the raw input, where there is no
     // letter for it.
+    #[tactic(auto, unfolding(ji::specs::Utf8::encode, crate::specs::Syllable::encoded, ji::specs::Lomaji::ToneLetter::tone_letter, crate::specs::Syllable::compose, crate::specs::Syllable::mark_of))]
     fn place_spelled(self, s: &mut [u16], n: usize, out: &mut [u8]) -> Result<ByteLen, Refusal>
         requires { (n < length s.old) × (n ≤ 802) }
         ensures { (raw_input : List ℕ) → self.entry.raw.now ≡ encode raw_input → text_reply result out.new ≡ placed 0 (encode (composed_with unicode16 raw_input (take n s.old) (mark_of self.entry.tone))) out.old }
@@ -432,6 +445,7 @@ impl Composer<'_> {
     }
 
     // Composes the body that stands in the first `n` places of `s`, which is used up.
+    #[tactic(auto, unfolding(ji::specs::Utf8::encode, crate::specs::Syllable::compose))]
     pub(crate) fn compose_points(
         self,
         s: &mut [u16],
@@ -470,6 +484,7 @@ impl Composer<'_> {
     }
 
     // A body of any length that is allowed.
+    #[tactic(auto, unfolding(ji::specs::Utf8::encode, crate::specs::Syllable::compose, ji::specs::Reply::check_text))]
     fn compose_any(self, body: &[u8], out: &mut [u8]) -> Result<ByteLen, Refusal>
         requires { length body.now ≤ 256 }
         ensures { (raw_input : List ℕ) → self.entry.raw.now ≡ encode raw_input → text_reply result out.new ≡ compose_of unicode16 self.entry.tone self.entry.khin (good raw_input) (check_text unicode16 body.now) out.old }

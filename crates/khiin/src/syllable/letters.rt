@@ -56,6 +56,7 @@ pub(crate) const DOTS: u16 = 0x0324;
 pub(crate) const HYPHEN: u16 = b'-' as u16;
 
 // The first letter of a pair of vowels that is replaced: o or e.
+#[tactic(auto, unfolding(ji::specs::Unicode::listed))]
 pub(crate) fn is_first(c: u16) -> bool
     ensures { result ≡ listed (points_of "oOeE") c }
 {
@@ -63,6 +64,7 @@ pub(crate) fn is_first(c: u16) -> bool
 }
 
 // The second letter of such a pair: o or u.
+#[tactic(auto, unfolding(ji::specs::Unicode::listed))]
 pub(crate) fn is_second(c: u16) -> bool
     ensures { result ≡ listed (points_of "oOuU") c }
 {

@@ -19,6 +19,7 @@ use ji::tone::Tone;
 use ji::unicode::ByteLen;
 
 // The mark of a tone.
+#[tactic(auto, unfolding(crate::specs::Syllable::mark_of))]
 pub(crate) fn mark_of(tone: Tone) -> Option<u16>
     ensures { mark_text result ≡ mark_of tone }
 {
@@ -44,6 +45,7 @@ pub(crate) enum Joined {
 }
 
 // A letter with a tone mark behind it, a function for each mark: these are seven tables, and a dense `match` of one number is the quickest lookup.
+#[tactic(auto, unfolding(ji::specs::Unicode::unicode16, ji::specs::Unicode::mappings16, ji::specs::Unicode::classes16, ji::specs::Unicode::exclusions16, ji::specs::Unicode::same, ji::specs::Unicode::listed, ji::specs::Unicode::mapping_in, ji::specs::Unicode::class_in, ji::specs::Unicode::decomposition, ji::specs::Unicode::combining_class, ji::specs::Unicode::is_composite, ji::specs::Unicode::composite_in, ji::specs::Unicode::composite))]
 fn grave(x: u16) -> Joined
     ensures { JoinedAs x 0x0300 result }
 {
@@ -66,6 +68,7 @@ fn grave(x: u16) -> Joined
     }
 }
 
+#[tactic(auto, unfolding(ji::specs::Unicode::unicode16, ji::specs::Unicode::mappings16, ji::specs::Unicode::classes16, ji::specs::Unicode::exclusions16, ji::specs::Unicode::same, ji::specs::Unicode::listed, ji::specs::Unicode::mapping_in, ji::specs::Unicode::class_in, ji::specs::Unicode::decomposition, ji::specs::Unicode::combining_class, ji::specs::Unicode::is_composite, ji::specs::Unicode::composite_in, ji::specs::Unicode::composite))]
 fn acute(x: u16) -> Joined
     ensures { JoinedAs x 0x0301 result }
 {
@@ -86,6 +89,7 @@ fn acute(x: u16) -> Joined
     }
 }
 
+#[tactic(auto, unfolding(ji::specs::Unicode::unicode16, ji::specs::Unicode::mappings16, ji::specs::Unicode::classes16, ji::specs::Unicode::exclusions16, ji::specs::Unicode::same, ji::specs::Unicode::listed, ji::specs::Unicode::mapping_in, ji::specs::Unicode::class_in, ji::specs::Unicode::decomposition, ji::specs::Unicode::combining_class, ji::specs::Unicode::is_composite, ji::specs::Unicode::composite_in, ji::specs::Unicode::composite))]
 fn circumflex(x: u16) -> Joined
     ensures { JoinedAs x 0x0302 result }
 {
@@ -108,6 +112,7 @@ fn circumflex(x: u16) -> Joined
     }
 }
 
+#[tactic(auto, unfolding(ji::specs::Unicode::unicode16, ji::specs::Unicode::mappings16, ji::specs::Unicode::classes16, ji::specs::Unicode::exclusions16, ji::specs::Unicode::same, ji::specs::Unicode::listed, ji::specs::Unicode::mapping_in, ji::specs::Unicode::class_in, ji::specs::Unicode::decomposition, ji::specs::Unicode::combining_class, ji::specs::Unicode::is_composite, ji::specs::Unicode::composite_in, ji::specs::Unicode::composite))]
 fn tilde(x: u16) -> Joined
     ensures { JoinedAs x 0x0303 result }
 {
@@ -128,6 +133,7 @@ fn tilde(x: u16) -> Joined
     }
 }
 
+#[tactic(auto, unfolding(ji::specs::Unicode::unicode16, ji::specs::Unicode::mappings16, ji::specs::Unicode::classes16, ji::specs::Unicode::exclusions16, ji::specs::Unicode::same, ji::specs::Unicode::listed, ji::specs::Unicode::mapping_in, ji::specs::Unicode::class_in, ji::specs::Unicode::decomposition, ji::specs::Unicode::combining_class, ji::specs::Unicode::is_composite, ji::specs::Unicode::composite_in, ji::specs::Unicode::composite))]
 fn macron(x: u16) -> Joined
     ensures { JoinedAs x 0x0304 result }
 {
@@ -150,6 +156,7 @@ fn macron(x: u16) -> Joined
     }
 }
 
+#[tactic(auto, unfolding(ji::specs::Unicode::unicode16, ji::specs::Unicode::mappings16, ji::specs::Unicode::classes16, ji::specs::Unicode::exclusions16, ji::specs::Unicode::same, ji::specs::Unicode::listed, ji::specs::Unicode::mapping_in, ji::specs::Unicode::class_in, ji::specs::Unicode::decomposition, ji::specs::Unicode::combining_class, ji::specs::Unicode::is_composite, ji::specs::Unicode::composite_in, ji::specs::Unicode::composite))]
 fn breve(x: u16) -> Joined
     ensures { JoinedAs x 0x0306 result }
 {
@@ -200,6 +207,7 @@ pub(crate) fn join(x: u16, mark: u16) -> Joined
 }
 
 // Whether U+0324 makes no composite with `x`.
+#[tactic(auto, unfolding(ji::specs::Unicode::listed))]
 fn is_o(x: u16) -> bool
     ensures { result ≡ listed (points_of "oO") x }
 {
@@ -207,6 +215,7 @@ fn is_o(x: u16) -> bool
 }
 
 // Whether `x` stays as it is behind `before`.
+#[tactic(auto, unfolding(ji::specs::Unicode::listed))]
 fn stays_behind(before: u16, x: u16) -> bool
     ensures { result ≡ true → stays_behind before x ≡ true }
 {
@@ -220,6 +229,7 @@ fn stays_behind(before: u16, x: u16) -> bool
 
 // Whether `s` needs no normalising, nor will with a tone mark behind one of its letters.
 // `windows(2)` would leave out the first code point, which has none before it.
+#[tactic(auto, unfolding(crate::specs::Compose::settled_from))]
 fn is_settled(s: &[u16]) -> bool
     ensures { result ≡ true → settled_from 0 s.now ≡ true }
 {
@@ -243,6 +253,7 @@ pub(crate) fn insert_mark(s: &mut [u16], k: usize, mark: u16)
 }
 
 // Writes `s` in compose's encoding to `out`: its NFC, with each U+0324 U+030D exchanged.
+#[tactic(auto, unfolding(crate::specs::Syllable::encoded))]
 fn place_encoded(s: &[u16], out: &mut [u8]) -> Result<ByteLen, Refusal>
     requires { length s.now ≤ 803 }
     ensures { text_reply result out.new ≡ placed 0 (encode (encoded unicode16 s.now)) out.old }

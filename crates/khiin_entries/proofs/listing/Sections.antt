@@ -40,11 +40,11 @@ lines_at kind at (k ∷ ks) (suc i) h =
     lines_at kind (suc at) ks i (omega arith) ∙ ap (λ (m : ℕ). keying_line kind m (get_or ks i [])) z
 
 -- one line, by the letter of its kind
-module _ (layout : Layout) (position : ℕ) (k : List ℕ) (e : keying_in layout.forms.now layout.offsets layout.lengths layout.radices layout.parts position ≡ encode k) where
-  behind : number_then position 0x20 ++ (keying_in layout.forms.now layout.offsets layout.lengths layout.radices layout.parts position ++ (0x0A ∷ [])) ≡ decimal position ++ (0x20 ∷ (encode k ++ (0x0A ∷ [])))
+module _ (layout : Layout) (position : ℕ) (k : List ℕ) (e : keying_in layout.forms.now layout.choices.now.offsets layout.choices.now.lengths layout.choices.now.radices layout.parts position ≡ encode k) where
+  behind : number_then position 0x20 ++ (keying_in layout.forms.now layout.choices.now.offsets layout.choices.now.lengths layout.choices.now.radices layout.parts position ++ (0x0A ∷ [])) ≡ decimal position ++ (0x20 ∷ (encode k ++ (0x0A ∷ [])))
   unfolding number_then
   behind =
-      append_assoc (decimal position) (0x20 ∷ []) (keying_in layout.forms.now layout.offsets layout.lengths layout.radices layout.parts position ++ (0x0A ∷ []))
+      append_assoc (decimal position) (0x20 ∷ []) (keying_in layout.forms.now layout.choices.now.offsets layout.choices.now.lengths layout.choices.now.radices layout.parts position ++ (0x0A ∷ []))
       ∙ ap (λ (l : List ℕ). decimal position ++ (0x20 ∷ (l ++ (0x0A ∷ [])))) e
 
   line_is : (kind : Kind) → line_in (letter_of kind) layout position ≡ keying_line kind position k
@@ -54,23 +54,23 @@ module _ (layout : Layout) (position : ℕ) (k : List ℕ) (e : keying_in layout
   line_is Detoned = ap (λ (l : List ℕ). 0x44 ∷ 0x20 ∷ l) behind
 
 -- the layout of an entry gives the definition's lines
-module _ {entry : List ℕ} (kind : Kind) (layout : Layout) (h : Entry entry layout.parts) (texts : laid_out layout.forms.now layout.offsets layout.lengths layout.radices layout.parts ≡ choices_in unicode16 kind entry) where
+module _ {entry : List ℕ} (kind : Kind) (layout : Layout) (h : Entry entry layout.parts) (texts : laid_out layout.forms.now layout.choices.now.offsets layout.choices.now.lengths layout.choices.now.radices layout.parts ≡ choices_in unicode16 kind entry) where
   abbrev ks : List (List ℕ)
   ks = keyings unicode16 kind (points_of entry)
 
-  pub counted : count_in layout.radices layout.parts ≡ length ks
-  counted = laid_count h kind 0 [] layout.forms.now layout.offsets layout.lengths layout.radices _ layout.laid texts
+  pub counted : count_in layout.choices.now.radices layout.parts ≡ length ks
+  counted = laid_count h kind 0 [] layout.forms.now layout.choices.now.offsets layout.choices.now.lengths layout.choices.now.radices _ layout.laid texts
 
   pub lines_are : lines_in (letter_of kind) layout ≡ kind_lines kind entry
   unfolding lines_in kind_lines
   lines_are =
       let line = line_in (letter_of kind) layout in
-      let count = count_in layout.radices layout.parts in
+      let count = count_in layout.choices.now.radices layout.parts in
       let n = length_up_to line count in
       ext_get_or [] _ _ (n ∙ counted ∙ sym (lines_count kind 0 ks))
       (λ i k. let b : i < count = omega (arith, n, k) in
       up_to_at line count i [] b
-      ∙ line_is layout i (get_or ks i []) (laid_keying h kind i [] layout.forms.now layout.offsets layout.lengths layout.radices _ layout.laid texts b) kind
+      ∙ line_is layout i (get_or ks i []) (laid_keying h kind i [] layout.forms.now layout.choices.now.offsets layout.choices.now.lengths layout.choices.now.radices _ layout.laid texts b) kind
       ∙ ap (λ (m : ℕ). keying_line kind m (get_or ks i [])) (sym (zero-add i))
       ∙ sym (lines_at kind 0 ks i (omega (arith, counted))))
 
@@ -96,9 +96,9 @@ abbrev count_of : Kind → List ℕ → ℕ
 count_of kind entry = length (keyings unicode16 kind (points_of entry))
 
 -- one kind more
-module _ {entry : List ℕ} (kind : Kind) (layout : Layout) (h : Entry entry layout.parts) (texts : laid_out layout.forms.now layout.offsets layout.lengths layout.radices layout.parts ≡ choices_in unicode16 kind entry) where
+module _ {entry : List ℕ} (kind : Kind) (layout : Layout) (h : Entry entry layout.parts) (texts : laid_out layout.forms.now layout.choices.now.offsets layout.choices.now.lengths layout.choices.now.radices layout.parts ≡ choices_in unicode16 kind entry) where
   pub section_reached : (ls : List (List ℕ)) {from : ℕ} {before mid after : List ℕ} {next end lines next' end' : ℕ} → Reached ls from before mid next end lines
-      → Following (lines_in (letter_of kind) layout) lines next end mid after next' end' → Reached (ls ++ kind_lines kind entry) from before after next' end' (lines + count_in layout.radices layout.parts)
+      → Following (lines_in (letter_of kind) layout) lines next end mid after next' end' → Reached (ls ++ kind_lines kind entry) from before after next' end' (lines + count_in layout.choices.now.radices layout.parts)
   unfolding kind_lines
   section_reached ls r f =
       record {

@@ -37,13 +37,13 @@ numbered_length before at letter h = put_length h ∙ length-set (set before at 
 
 module _ (layout : Layout) (position : ℕ) where
   abbrev key : List ℕ
-  key = keying_in layout.forms.now layout.offsets layout.lengths layout.radices layout.parts position
+  key = keying_in layout.forms.now layout.choices.now.offsets layout.choices.now.lengths layout.choices.now.radices layout.parts position
 
   abbrev size : ℕ
-  size = length_in layout.lengths layout.radices layout.parts position
+  size = length_in layout.choices.now.lengths layout.choices.now.radices layout.parts position
 
   key_length : length key ≡ size
-  key_length = keying_length layout.offsets layout.lengths layout.radices (length layout.forms.now) layout.forms.now (omega arith) layout.parts position layout.laid
+  key_length = keying_length layout.choices.now.offsets layout.choices.now.lengths layout.choices.now.radices (length layout.forms.now) layout.forms.now (omega arith) layout.parts position layout.laid
 
   pub keyed_length : (numbered written : List ℕ) (end : ℕ) → size ≤ end → end ≤ length numbered → written ≡ paste numbered (end - size) key size → length written ≡ length numbered
   keyed_length numbered written end h k is =
@@ -72,13 +72,13 @@ module _ (layout : Layout) (position : ℕ) where
 
 -- ── the lines of a kind
 module _ (letter : ℕ) (layout : Layout) where
-  pub lines_length : length (lines_in letter layout) ≡ count_in layout.radices layout.parts
+  pub lines_length : length (lines_in letter layout) ≡ count_in layout.choices.now.radices layout.parts
   unfolding lines_in
-  lines_length = length_up_to (line_in letter layout) (count_in layout.radices layout.parts)
+  lines_length = length_up_to (line_in letter layout) (count_in layout.choices.now.radices layout.parts)
 
-  pub lines_line : (i : ℕ) → i < count_in layout.radices layout.parts → get_or (lines_in letter layout) i [] ≡ line_in letter layout i
+  pub lines_line : (i : ℕ) → i < count_in layout.choices.now.radices layout.parts → get_or (lines_in letter layout) i [] ≡ line_in letter layout i
   unfolding lines_in
-  lines_line i h = up_to_at (line_in letter layout) (count_in layout.radices layout.parts) i [] h
+  lines_line i h = up_to_at (line_in letter layout) (count_in layout.choices.now.radices layout.parts) i [] h
 
 -- ── a line that is put together in a buffer of its own
 cut : {before after : List ℕ} {text : List ℕ} {end : ℕ} → Put before after 0 text end → take end after ≡ text

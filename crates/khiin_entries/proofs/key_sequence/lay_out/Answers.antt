@@ -23,7 +23,7 @@ module _ (t : In-Some) where
   few = omega (arith, turn, entry_parts t.args.parted.now.good)
 
 pub loop-i-init : goal.loop-i-init
-loop-i-init c = record { size = refl; inside = omega arith; filling = filling_start _ _ _ _ _ _ refl refl refl }
+loop-i-init c = record { size = refl; inside = omega arith; filling = filling_start _ _ _ _ _ _ c.requires.2 c.requires.3 c.requires.4 }
 
 pub lay_row-row-requires : goal.lay_row-row-requires
 lay_row-row-requires c =
@@ -33,14 +33,14 @@ lay_row-row-requires c =
     let t = turn (goal.at.lay_row-row-requires c).In-Some in
     rw t.2 (entry_part e _ (omega (arith, t.0, entry_parts e)), omega (arith, filling_room e was.filling t.0, was.size, p.0), omega (arith, was.size, p.1))
 
-pub bounds-offsets-i : goal.bounds-offsets-i
-bounds-offsets-i c = few (goal.at.bounds-offsets-i c).In-Some
+pub bounds-choices-i : goal.bounds-choices-i
+bounds-choices-i c = few (goal.at.bounds-choices-i c).In-Some
 
-pub bounds-lengths-i : goal.bounds-lengths-i
-bounds-lengths-i c = few (goal.at.bounds-lengths-i c).In-Some
+pub bounds-choices-i-in-loop-i : goal.bounds-choices-i-in-loop-i
+bounds-choices-i-in-loop-i c = few (goal.at.bounds-choices-i-in-loop-i c).In-Some
 
-pub bounds-radices-i : goal.bounds-radices-i
-bounds-radices-i c = few (goal.at.bounds-radices-i c).In-Some
+pub bounds-choices-i-in-loop-i-2 : goal.bounds-choices-i-in-loop-i-2
+bounds-choices-i-in-loop-i-2 c = few (goal.at.bounds-choices-i-in-loop-i-2 c).In-Some
 
 pub loop-i-preserved : goal.loop-i-preserved
 loop-i-preserved c =

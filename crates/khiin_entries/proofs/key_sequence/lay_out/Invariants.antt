@@ -8,5 +8,5 @@ invariant-loop-i l =
     record {
       size : length l.forms ≡ length l.initial.forms;
       inside : l.used ≤ length l.forms;
-      filling : Filling l.parted.entry.now l.kind l.forms l.offsets l.lengths l.radices (length l.yielded) l.used;
+      filling : Filling l.parted.entry.now l.kind l.forms l.choices.offsets l.choices.lengths l.choices.radices (length l.yielded) l.used;
     }

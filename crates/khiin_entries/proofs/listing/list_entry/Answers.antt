@@ -1,5 +1,5 @@
 -- `listing::list_entry` meets its contract.
-use Rattle.std.proofs.Common.{◌∙◌, arith}
+use Rattle.std.proofs.Common.{refl, ◌∙◌, arith}
 use Rattle.ji.specs.declared.lomaji.keys.Kind.TheVariants.{Detoned, Numeric, Telex}
 use Rattle.khiin_entries.specs.Choices.{Entry}
 use Rattle.khiin_entries.proofs.key_sequence.Filling.{entry_passed}
@@ -7,13 +7,13 @@ use Rattle.khiin_entries.proofs.listing.Sections.{counted, head_reached, section
 use Rattle.khiin_entries.proofs.listing.list_entry.Goals as goal
 
 pub lay_out-numeric-requires : goal.lay_out-numeric-requires
-lay_out-numeric-requires c = (omega (arith, (entry_passed c.args.parted.now.good).short), omega arith)
+lay_out-numeric-requires c = (omega (arith, (entry_passed c.args.parted.now.good).short), omega arith, refl, refl, refl)
 
 pub lay_out-telex-requires : goal.lay_out-telex-requires
-lay_out-telex-requires c = (omega (arith, (entry_passed c.args.parted.now.good).short), omega arith)
+lay_out-telex-requires c = (omega (arith, (entry_passed c.args.parted.now.good).short), omega arith, refl, refl, refl)
 
 pub lay_out-detoned-requires : goal.lay_out-detoned-requires
-lay_out-detoned-requires c = (omega (arith, (entry_passed c.args.parted.now.good).short), omega arith)
+lay_out-detoned-requires c = (omega (arith, (entry_passed c.args.parted.now.good).short), omega arith, refl, refl, refl)
 
 pub returns : goal.returns
 returns c =

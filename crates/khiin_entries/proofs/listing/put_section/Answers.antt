@@ -14,7 +14,7 @@ returns-then-written-first c =
 pub overflow_add-result : goal.overflow_add-result
 overflow_add-result c =
     let l = c.args.layout.now in
-    omega (arith, shown_most c.put_lines-lines.ensures, lines_length c.args.letter l, count_fits l.radices l.parts l.few (λ i k. (l.laid i k).few), c.ranges.first, c.requires)
+    omega (arith, shown_most c.put_lines-lines.ensures, lines_length c.args.letter l, count_fits l.choices.now.radices l.parts l.few (λ i k. (l.laid i k).few), c.ranges.first, c.requires)
 
 pub returns : goal.returns
 returns c =

@@ -17,12 +17,6 @@ use Rattle.khiin_records.proofs.Candidates.{some_points}
 use Rattle.khiin_records.proofs.Prefixes.{aligned_inside, aligned_text, align_target_refused, align_target_good}
 use Rattle.khiin_records.proofs.alignment.align_within.Goals as goal
 
-pub of-requires : goal.of-requires
-of-requires g c = omega (arith, c.requires.1, length-replicate {A = ℕ} g.row.N 0)
-
-pub align_stripped-count-requires : goal.align_stripped-count-requires
-align_stripped-count-requires g c = omega (arith, c.in_ok-stripped.ensures.short, c.requires.2, length-replicate {A = ℕ} g.row.N 0)
-
 pub slice_bounds-place_keys-end : goal.slice_bounds-place_keys-end
 slice_bounds-place_keys-end g c =
     let keys = c.args.keys.bytes.now in
@@ -30,11 +24,6 @@ slice_bounds-place_keys-end g c =
     let h = c.in_ok-stripped.ensures in
     let u = without_khin (strip unicode16 h.points).rest in
     sym (length-take-le c.align_stripped-count.result keys (omega (arith, c.align_stripped-count.ensures u h.rest, aligned_inside keys s.ending.tone s.ending.khin u s.ending.toned)))
-
-pub returns-in_err-stripped : goal.returns-in_err-stripped
-returns-in_err-stripped g c =
-    let p = err_from_is_err_and c.from_residual.result c.from_residual.ensures.1 in
-    rw (p.1, p.2) (align_target_refused unicode16 c.args.keys.bytes.now c.args.target.now c.args.out.now c.in_err-stripped.field-0.0 c.in_err-stripped.ensures)
 
 pub returns : goal.returns
 returns g c =

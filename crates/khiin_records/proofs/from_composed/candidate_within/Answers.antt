@@ -15,17 +15,6 @@ use Rattle.khiin_records.proofs.Records.{members_behind}
 use Rattle.khiin_records.proofs.Candidates.{candidate_refused, candidate_good, some_points}
 use Rattle.khiin_records.proofs.from_composed.candidate_within.Goals as goal
 
-pub of-requires : goal.of-requires
-of-requires g c = omega (arith, c.requires.1, length-replicate {A = ℕ} g.row.N 0)
-
-pub candidate_stripped-requires : goal.candidate_stripped-requires
-candidate_stripped-requires g c = omega (arith, c.in_ok-stripped.ensures.short, c.requires.2, length-replicate {A = ℕ} g.row.N 0)
-
-pub returns-in_err-stripped : goal.returns-in_err-stripped
-returns-in_err-stripped g c =
-    let p = err_from_is_err_and c.from_residual.result c.from_residual.ensures.1 in
-    rw (p.1, p.2) (candidate_refused c.args.text.now c.args.position c.args.out.now c.in_err-stripped.field-0.0 c.in_err-stripped.ensures)
-
 pub returns : goal.returns
 returns g c =
     let a = c.args in

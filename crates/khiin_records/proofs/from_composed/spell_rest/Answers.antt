@@ -58,41 +58,11 @@ module _ (c : Then-is_below) where
   letter_written : 0 < c.loop-i.n
   letter_written = omega (arith, behind_letter, c.loop-i.invariant.1.longer)
 
-pub loop-i-init : goal.loop-i-init
-loop-i-init c = (omega arith, c.requires.1)
-
-pub is_pair-requires : goal.is_pair-requires
-is_pair-requires c = c.loop-i-test.true
-
-pub bounds-out-n : goal.bounds-out-n
-bounds-out-n c = omega (arith, room (goal.at.bounds-out-n c).In-loop-i 1 (omega arith))
-
-pub overflow_add-n : goal.overflow_add-n
-overflow_add-n c = omega (arith, room (goal.at.overflow_add-n c).In-loop-i 1 (omega arith))
-
-pub overflow_add-i : goal.overflow_add-i
-overflow_add-i c = omega (arith, begins_fits dot c.args.s.now c.loop-i.i c.loop-i.invariant.1.inside (sym c.is_pair.ensures ∙ c.if-is_pair.true))
-
 pub loop-i-preserved-then-is_pair : goal.loop-i-preserved-then-is_pair
 loop-i-preserved-then-is_pair c = (omega (arith, c.loop-i.invariant.0), walk_dot c.loop-i.invariant.1 c.loop-i-test.true (sym c.is_pair.ensures ∙ c.if-is_pair.true) (omega (arith, before_room (goal.at.loop-i-preserved-then-is_pair c).In-loop-i 1 (omega arith))))
 
-pub is_nasal-requires : goal.is_nasal-requires
-is_nasal-requires c = c.loop-i-test.true
-
-pub bounds-out-n-then-is_nasal : goal.bounds-out-n-then-is_nasal
-bounds-out-n-then-is_nasal c = omega (arith, room (goal.at.bounds-out-n-then-is_nasal c).In-loop-i 1 (omega arith))
-
-pub overflow_add-out : goal.overflow_add-out
-overflow_add-out c = omega (arith, room (goal.at.overflow_add-out c).In-loop-i 1 (omega arith))
-
 pub bounds-out-n-then-is_nasal-2 : goal.bounds-out-n-then-is_nasal-2
 bounds-out-n-then-is_nasal-2 c = simp length-set (omega (arith, room (goal.at.bounds-out-n-then-is_nasal-2 c).In-loop-i 2 (let k = begins_fits nasal c.args.s.now c.loop-i.i c.loop-i.invariant.1.inside (sym c.is_nasal.ensures ∙ c.if-is_nasal.true) in omega arith)))
-
-pub overflow_add-n-then-is_nasal : goal.overflow_add-n-then-is_nasal
-overflow_add-n-then-is_nasal c = omega (arith, room (goal.at.overflow_add-n-then-is_nasal c).In-loop-i 2 (let k = begins_fits nasal c.args.s.now c.loop-i.i c.loop-i.invariant.1.inside (sym c.is_nasal.ensures ∙ c.if-is_nasal.true) in omega arith))
-
-pub overflow_add-i-then-is_nasal : goal.overflow_add-i-then-is_nasal
-overflow_add-i-then-is_nasal c = omega (arith, begins_fits nasal c.args.s.now c.loop-i.i c.loop-i.invariant.1.inside (sym c.is_nasal.ensures ∙ c.if-is_nasal.true))
 
 pub loop-i-preserved-then-is_nasal : goal.loop-i-preserved-then-is_nasal
 loop-i-preserved-then-is_nasal c = (
@@ -100,32 +70,11 @@ loop-i-preserved-then-is_nasal c = (
   walk_nasal c.loop-i.invariant.1 c.loop-i-test.true (sym c.is_pair.ensures ∙ c.if-is_pair.false) (sym c.is_nasal.ensures ∙ c.if-is_nasal.true) (omega (arith, before_room (goal.at.loop-i-preserved-then-is_nasal c).In-loop-i 2 (let k = begins_fits nasal c.args.s.now c.loop-i.i c.loop-i.invariant.1.inside (sym c.is_nasal.ensures ∙ c.if-is_nasal.true) in omega arith))),
 )
 
-pub is_below-requires : goal.is_below-requires
-is_below-requires c = c.loop-i-test.true
-
 pub overflow_sub-x : goal.overflow_sub-x
 overflow_sub-x c = behind_letter (goal.at.overflow_sub-x c).Then-is_below
 
-pub bounds-s-i : goal.bounds-s-i
-bounds-s-i c = omega (arith, c.loop-i-test.true)
-
 pub overflow_sub-out : goal.overflow_sub-out
 overflow_sub-out c = letter_written (goal.at.overflow_sub-out c).Then-is_below
-
-pub bounds-out-n-then-is_below : goal.bounds-out-n-then-is_below
-bounds-out-n-then-is_below c = omega (arith, room (goal.at.bounds-out-n-then-is_below c).In-loop-i 1 (omega arith))
-
-pub bounds-out-n-then-is_below-2 : goal.bounds-out-n-then-is_below-2
-bounds-out-n-then-is_below-2 c = simp length-set (omega (arith, room (goal.at.bounds-out-n-then-is_below-2 c).In-loop-i 1 (omega arith)))
-
-pub overflow_add-n-then-is_below : goal.overflow_add-n-then-is_below
-overflow_add-n-then-is_below c = omega (arith, room (goal.at.overflow_add-n-then-is_below c).In-loop-i 1 (omega arith))
-
-pub overflow_add-i-then-is_below : goal.overflow_add-i-then-is_below
-overflow_add-i-then-is_below c = omega (arith, begins_fits below c.args.s.now c.loop-i.i c.loop-i.invariant.1.inside (and_left _ _ (is_below_here (goal.at.overflow_add-i-then-is_below c).Then-is_below)))
-
-pub loop-i-smaller-then-is_below : goal.loop-i-smaller-then-is_below
-loop-i-smaller-then-is_below c = omega (arith, c.loop-i-test.true)
 
 pub loop-i-preserved-then-is_below : goal.loop-i-preserved-then-is_below
 loop-i-preserved-then-is_below c =
@@ -134,29 +83,8 @@ loop-i-preserved-then-is_below c =
       rw (c.first_of.ensures, c.second_of.ensures, x) (walk_below c.loop-i.invariant.1 c.loop-i-test.true (no_dot_here (goal.at.loop-i-preserved-then-is_below c).Else-is_nasal) (no_nasal_here (goal.at.loop-i-preserved-then-is_below c).Else-is_nasal) (is_below_here (goal.at.loop-i-preserved-then-is_below c).Then-is_below) (letter_written (goal.at.loop-i-preserved-then-is_below c).Then-is_below) (omega (arith, before_room (goal.at.loop-i-preserved-then-is_below c).In-loop-i 1 (omega arith)))),
     )
 
-pub bounds-s-i-else-is_below : goal.bounds-s-i-else-is_below
-bounds-s-i-else-is_below c = c.loop-i-test.true
-
-pub bounds-out-n-else-is_below : goal.bounds-out-n-else-is_below
-bounds-out-n-else-is_below c = omega (arith, room (goal.at.bounds-out-n-else-is_below c).In-loop-i 1 (omega arith))
-
-pub overflow_add-n-else-is_below : goal.overflow_add-n-else-is_below
-overflow_add-n-else-is_below c = omega (arith, room (goal.at.overflow_add-n-else-is_below c).In-loop-i 1 (omega arith))
-
-pub overflow_add-i-else-is_below : goal.overflow_add-i-else-is_below
-overflow_add-i-else-is_below c = omega (arith, c.loop-i-test.true)
-
-pub loop-i-smaller : goal.loop-i-smaller
-loop-i-smaller c = omega (arith, c.loop-i-test.true)
-
 pub loop-i-preserved : goal.loop-i-preserved
 loop-i-preserved c = (
   omega (arith, c.loop-i.invariant.0),
   walk_copy c.loop-i.invariant.1 c.loop-i-test.true (no_dot_here (goal.at.loop-i-preserved c).Else-is_nasal) (no_nasal_here (goal.at.loop-i-preserved c).Else-is_nasal) (sym c.is_below.ensures ∙ c.if-is_below.false) (omega (arith, before_room (goal.at.loop-i-preserved c).In-loop-i 1 (omega arith))),
 )
-
-pub returns : goal.returns
-returns c =
-    let l = c.loop-i in
-    let e = walk_end l.invariant.1 c.loop-i-test.false in
-    (l.invariant.0, e.0, omega (arith, l.invariant.1.shorter, l.invariant.1.inside), e.1)

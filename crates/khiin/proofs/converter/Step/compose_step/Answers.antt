@@ -80,11 +80,6 @@ module _ (p : List ℕ) (n x key : ℕ) (same : x ≡ key) (h : n + 2 < length p
         ∙ ap (take c) (sym key_is)
         ∙ part_same c l
 
-pub typed-body-requires : goal.typed-body-requires
-typed-body-requires c =
-    let s = size c.args.points.now c.args.n c.from.result c.args.self.key c.from.ensures c.requires.1 in
-    (omega (arith, s), omega (arith, s, c.grown_len.ensures.2))
-
 pub slice_bounds-compose_plain-end : goal.slice_bounds-compose_plain-end
 slice_bounds-compose_plain-end c =
     let s = size c.args.points.now c.args.n c.from.result c.args.self.key c.from.ensures c.requires.1 in
@@ -99,18 +94,4 @@ returns-in-Some c =
     ∙ ap (λ (b : List ℕ). here (compose unicode16 (take a.n a.points.now ++ (a.self.key ∷ [])) b c.typed-body.result.tone No))
     (body_same a.points.now a.n c.from.result a.self.key c.from.ensures c.requires.1 a.raw.now c.requires.2 c.typed-body.result.len c.typed-body.ensures.0 (c.in-Some.ensures.0 refl))
     ∙ ap here
-    (step_text a.points.now a.n c.from.result a.self.key c.from.ensures c.requires.1 a.self.keys a.self.tone _ _ _ c.grown_len.ensures.0 c.grown_len.ensures.1 c.typed-body.ensures.0 c.typed-body.ensures.1)
-
-pub compose_points-requires : goal.compose_points-requires
-compose_points-requires c =
-    let s = size c.args.points.now c.args.n c.from.result c.args.self.key c.from.ensures c.requires.1 in
-    (omega (arith, s, c.typed-body.ensures.0, c.requires.0), omega (arith, s, c.typed-body.ensures.0, c.requires.1, length-set c.args.points.now c.args.n c.from.result))
-
-pub returns : goal.returns
-returns c =
-    let a = c.args in
-    let text = compose unicode16 (take a.n a.points.now ++ (a.self.key ∷ [])) (take c.typed-body.result.len (stored a.points.now a.n c.from.result a.self.key c.from.ensures c.requires.1)) c.typed-body.result.tone No in
-    c.compose_points.ensures _ c.requires.2
-    ∙ ap (placed 0 (encode text)) (c.in_default.ensures.1 _ c.requires.2)
-    ∙ ap (λ (l : List ℕ). placed 0 (encode l) a.out.now)
     (step_text a.points.now a.n c.from.result a.self.key c.from.ensures c.requires.1 a.self.keys a.self.tone _ _ _ c.grown_len.ensures.0 c.grown_len.ensures.1 c.typed-body.ensures.0 c.typed-body.ensures.1)

@@ -4,11 +4,6 @@ use borrow.Author.Rules.{rules}
 use native.Mathlib.Omega.{arith}
 use Rattle.khiin.proofs.converter.Step.edit_of.Goals as goal
 
-pub returns-then-repeats_tone : goal.returns-then-repeats_tone
-returns-then-repeats_tone c =
-    let a = c.args in
-    λ given e. edit_behind a.self.keys a.self.key a.self.tone given (sym c.repeats_tone.ensures ∙ c.if-repeats_tone.true)
-
 pub returns-in_default : goal.returns-in_default
 returns-in_default c =
     let a = c.args in
@@ -25,8 +20,3 @@ returns-in_default-2 c =
     λ given e.
     sym (edit_other a.self.key given (λ f. omega (arith, l, f)) (λ f. not_u (l ∙ f)) (λ f. omega (arith, l, f)))
     ∙ edit_else a.self.keys a.self.key a.self.tone given (sym c.repeats_tone.ensures ∙ c.if-repeats_tone.false)
-
-pub returns-in-110 : goal.returns-in-110
-returns-in-110 c =
-    let a = c.args in
-    λ given e. c.edit_at.ensures given e ∙ edit_else a.self.keys a.self.key a.self.tone given (sym c.repeats_tone.ensures ∙ c.if-repeats_tone.false)

@@ -38,32 +38,6 @@ two_for bytes rest n m at key e w f h g l room low is =
     ∙ key_behind (x ++ (e_like key ∷ [])) key low
     ∙ ap encode (append_assoc x (e_like key ∷ []) (key ∷ []))
 
-pub without_last-at-requires : goal.without_last-at-requires
-without_last-at-requires c = omega (arith, c.requires.0)
-
-pub place_key-requires-in-Last : goal.place_key-requires-in-Last
-place_key-requires-in-Last c = omega (arith, c.without_last-at.ensures.1, c.requires.0)
-
-pub without_last-requires : goal.without_last-requires
-without_last-requires c = omega (arith, c.requires.0)
-
-pub without_last-at-requires-in-LastTwo : goal.without_last-at-requires-in-LastTwo
-without_last-at-requires-in-LastTwo c = omega (arith, c.without_last.ensures.1, c.requires.0)
-
-pub bounds-bytes-at : goal.bounds-bytes-at
-bounds-bytes-at c = omega (arith, c.without_last-at-in-LastTwo.ensures.1, c.without_last.ensures.1, c.requires.0)
-
-pub overflow_add-at : goal.overflow_add-at
-overflow_add-at c = omega (arith, c.without_last-at-in-LastTwo.ensures.1, c.without_last.ensures.1, c.requires.0)
-
-pub place_key-requires-in-LastTwo : goal.place_key-requires-in-LastTwo
-place_key-requires-in-LastTwo c = omega (arith, c.without_last-at-in-LastTwo.ensures.1, c.without_last.ensures.1, c.requires.0, length-set c.args.bytes.now c.without_last-at-in-LastTwo.result c.e_like.result)
-
-pub compose_in-requires : goal.compose_in-requires
-compose_in-requires c =
-    let q = c.requires in
-    (omega (arith, q.0), q.1, q.2, q.3)
-
 pub returns-in-Behind : goal.returns-in-Behind
 returns-in-Behind c =
     λ h.
@@ -86,9 +60,3 @@ returns-in-LastTwo c =
     ∙ ap (λ (l : List ℕ). placed 0 l c.args.out.now)
     (two_for c.args.bytes.now h.rest c.args.n c.without_last.result c.without_last-at-in-LastTwo.result c.args.self.key c.e_like.result h.written c.without_last.ensures.0 c.without_last.ensures.1 c.without_last-at-in-LastTwo.ensures.0 c.without_last-at-in-LastTwo.ensures.1 (omega (arith, c.without_last-at-in-LastTwo.ensures.1, c.without_last.ensures.1, c.requires.0)) c.args.self.ascii c.e_like.ensures)
     ∙ ap (λ (x : Edit). placed 0 (encode (edited unicode16 c.args.self.keys x c.args.self.key c.args.self.tone h.rest)) c.args.out.now) (sym c.in-LastTwo.is)
-
-pub returns-in-Compose : goal.returns-in-Compose
-returns-in-Compose c =
-    λ h.
-    c.compose_in.ensures h
-    ∙ ap (λ (e : Edit). placed 0 (encode (edited unicode16 c.args.self.keys e c.args.self.key c.args.self.tone h.rest)) c.args.out.now) (sym c.in-Compose.is)

@@ -13,24 +13,6 @@ use Rattle.khiin.proofs.syllable.compose.end_in_sign.Goals.{then-s-n-eq-CAPITAL_
 signed : (s : List ℕ) (sign : ℕ) → 3 ≤ length s → respell nasal_rules s ≡ take (length s - 2) s ++ (sign ∷ []) → Front (set s (length s - 2) sign) (length s - 1) (respell nasal_rules s)
 signed s sign h e = subst (Front (set s (length s - 2) sign) (length s - 1)) (sym e) (front_signed s sign h)
 
-pub overflow_sub-n : goal.overflow_sub-n
-overflow_sub-n c = omega (arith, nasal_three c.args.s.now c.requires.0)
-
-pub bounds-s-n : goal.bounds-s-n
-bounds-s-n c = omega (arith, nasal_three c.args.s.now c.requires.0)
-
-pub overflow_sub-n-then-s-n-eq-CAPITAL_N : goal.overflow_sub-n-then-s-n-eq-CAPITAL_N
-overflow_sub-n-then-s-n-eq-CAPITAL_N c = omega (arith, nasal_three c.args.s.now c.requires.0)
-
-pub overflow_sub-s : goal.overflow_sub-s
-overflow_sub-s c = omega (arith, nasal_three c.args.s.now c.requires.0)
-
-pub bounds-s-n-2 : goal.bounds-s-n-2
-bounds-s-n-2 c = omega (arith, nasal_three c.args.s.now c.requires.0)
-
-pub overflow_sub-result : goal.overflow_sub-result
-overflow_sub-result c = omega (arith, nasal_three c.args.s.now c.requires.0)
-
 pub returns : goal.returns
 returns c =
     let s = c.args.s.now in

@@ -8,21 +8,6 @@ use native.Mathlib.Omega.{arith}
 use Rattle.khiin.proofs.syllable.compose.ends_nasal.Goals as goal
 use Rattle.khiin.proofs.syllable.compose.ends_nasal.Goals.{then-n-gt2, else-n-gt2, then-lower-eq-N, else-lower-eq-N}
 
-pub returns-then-lower-eq-N-2 : goal.returns-then-lower-eq-N-2
-returns-then-lower-eq-N-2 c =
-    let s = c.args.s.now in
-    elim c.if-lower-eq-N.branch [
-      | then-lower-eq-N w ↦
-          elim c.if-n-gt2.branch [
-            | then-n-gt2 v ↦
-                let second = sym w.lower-then-lower-eq-N.ensures ∙ eqb-true _ _ (sym w.value-is ∙ c.if-lower-eq-N-2.true) in
-                let last = sym v.lower.ensures ∙ eqb-true _ _ (sym v.value-is ∙ w.if-lower-eq-N.true) in
-                c.takes_nasal.ensures ∙ ap (listed (marked "aeiouptkhm" 0x0358)) c.lower-then-lower-eq-N-2.ensures ∙ sym (nasal_by_letter s (omega (arith, v.if-n-gt2.true)) second last)
-            | else-n-gt2 v ↦ absurd (omega (arith, v.if-n-gt2.false, ltb-true 2 _ (sym v.value-is ∙ w.if-lower-eq-N.true)))
-          ]
-      | else-lower-eq-N w ↦ absurd (false_true (sym (w.value-is ∙ w.if-lower-eq-N.false) ∙ c.if-lower-eq-N-2.true))
-    ]
-
 pub returns-else-lower-eq-N-2 : goal.returns-else-lower-eq-N-2
 returns-else-lower-eq-N-2 c =
     let s = c.args.s.now in

@@ -8,16 +8,6 @@ use Rattle.khiin.proofs.syllable.compose.Once.{moved_none_lone}
 use native.Mathlib.Omega.{arith}
 use Rattle.khiin.proofs.syllable.compose.move_signs.Goals as goal
 
-pub slice_bounds-move_sign-end : goal.slice_bounds-move_sign-end
-slice_bounds-move_sign-end c = omega (arith, front_fits c.move_sign-n.ensures)
-
-pub returns-then-has_sign : goal.returns-then-has_sign
-returns-then-has_sign c =
-    record {
-      front = front_step c.move_sign-n.ensures (moved 0x1D3A) c.move_sign-len.ensures _;
-      lone = λ e. absurd (false_true e);
-    }
-
 pub returns-else-has_sign : goal.returns-else-has_sign
 returns-else-has_sign c =
     let s = c.args.s.now in

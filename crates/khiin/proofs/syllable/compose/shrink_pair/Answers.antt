@@ -35,38 +35,8 @@ told : (a b : ℕ) (s : List ℕ) (i : ℕ) {r x : Bool} → r ≡ starts_with e
 told a b s i e is =
     ap (begins (a ∷ b ∷ [])) (sym (take_all (length s - i) (drop i s) (omega (arith, length-drop i s)))) ∙ sym (begins_told (a ∷ b ∷ []) (take (length s - i) (drop i s))) ∙ sym e ∙ is
 
-pub loop-i-init : goal.loop-i-init
-loop-i-init c = walk_start (replace_all (c.args.a ∷ c.args.b ∷ []) (c.args.c ∷ [])) c.args.s.now
-
-pub bounds-s-n : goal.bounds-s-n
-bounds-s-n c = omega (arith, c.loop-i.invariant.behind)
-
-pub overflow_add-n : goal.overflow_add-n
-overflow_add-n c = omega (arith, c.loop-i.invariant.behind)
-
-pub overflow_add-i : goal.overflow_add-i
-overflow_add-i c = omega (arith, two_inside c.args.a c.args.b c.args.c c.loop-i.invariant (told c.args.a c.args.b _ c.loop-i.i c.starts_with.ensures.value c.if-starts_with.true))
-
-pub loop-i-smaller-then-starts_with : goal.loop-i-smaller-then-starts_with
-loop-i-smaller-then-starts_with c = simp length-set (omega arith)
-
 pub loop-i-preserved-then-starts_with : goal.loop-i-preserved-then-starts_with
 loop-i-preserved-then-starts_with c = let a = c.args in hit a.a a.b a.c c.loop-i.invariant c.loop-i-test.true (told c.args.a c.args.b _ c.loop-i.i c.starts_with.ensures.value c.if-starts_with.true)
 
-pub bounds-s-n-else-starts_with : goal.bounds-s-n-else-starts_with
-bounds-s-n-else-starts_with c = omega (arith, c.loop-i.invariant.behind)
-
-pub overflow_add-n-else-starts_with : goal.overflow_add-n-else-starts_with
-overflow_add-n-else-starts_with c = omega (arith, c.loop-i.invariant.behind)
-
-pub loop-i-smaller : goal.loop-i-smaller
-loop-i-smaller c = simp length-set (omega arith)
-
 pub loop-i-preserved : goal.loop-i-preserved
 loop-i-preserved c = let a = c.args in miss a.a a.b a.c c.loop-i.invariant c.loop-i-test.true (told c.args.a c.args.b _ c.loop-i.i c.starts_with.ensures.value c.if-starts_with.false)
-
-pub returns : goal.returns
-returns c =
-    let v = c.loop-i.invariant in
-    let a = c.args in
-    walk_end v (replace_end (a.a ∷ a.b ∷ []) (a.c ∷ []) a.s.now c.loop-i.i (omega (arith, walk_length v)))

@@ -9,7 +9,7 @@ use Rattle.khiin_entries.proofs.layout.Layout.count.Goals.{After-from-count}
 -- one factor more
 module _ (t : After-from-count) where
   abbrev radices : List ℕ
-  radices = t.args.self.now.radices
+  radices = t.args.self.now.choices.now.radices
 
   abbrev i : ℕ
   i = t.loop-radix.radix-index
@@ -27,11 +27,11 @@ pub overflow_mul-count : goal.overflow_mul-count
 overflow_mul-count c = record { fits = omega (arith, next c, fits c) }
 
 pub loop-radix-preserved : goal.loop-radix-preserved
-loop-radix-preserved c = next c ∙ ap (count_in c.args.self.now.radices) (sym (add-one c.loop-radix.radix-index))
+loop-radix-preserved c = next c ∙ ap (count_in c.args.self.now.choices.now.radices) (sym (add-one c.loop-radix.radix-index))
 
 pub returns : goal.returns
 returns c =
     let layout = c.args.self.now in
-    let z : c.loop-radix.radix-index ≡ layout.parts = omega (arith, layout.few, length-take layout.parts layout.radices) in
-    let is = c.loop-radix.invariant ∙ ap (count_in layout.radices) z in
-    (is, omega (arith, is, count_fits layout.radices layout.parts layout.few (λ i k. (layout.laid i k).few)))
+    let z : c.loop-radix.radix-index ≡ layout.parts = omega (arith, layout.few, length-take layout.parts layout.choices.now.radices) in
+    let is = c.loop-radix.invariant ∙ ap (count_in layout.choices.now.radices) z in
+    (is, omega (arith, is, count_fits layout.choices.now.radices layout.parts layout.few (λ i k. (layout.laid i k).few)))

@@ -12,15 +12,3 @@ returns-in-Some c =
     let body = c.args.body.now in
     c.in-Some.ensures.1 raw_input e
     ∙ ap (λ (k : Checked). compose_of unicode16 c.args.self.tone c.args.self.khin (good raw_input) k c.args.out.now) (sym (check_within_law unicode16 body c.requires ∙ ascii_good body (c.in-Some.ensures.0 refl)))
-
-pub returns-then-body-le16 : goal.returns-then-body-le16
-returns-then-body-le16 c =
-    λ raw_input e.
-    c.compose_in.ensures raw_input e
-    ∙ ap (compose_of unicode16 c.args.self.tone c.args.self.khin (good raw_input) (check_text unicode16 c.args.body.now)) (c.in_default.ensures.1 raw_input e)
-
-pub returns-else-body-le16 : goal.returns-else-body-le16
-returns-else-body-le16 c =
-    λ raw_input e.
-    c.compose_in-else-body-le16.ensures raw_input e
-    ∙ ap (compose_of unicode16 c.args.self.tone c.args.self.khin (good raw_input) (check_text unicode16 c.args.body.now)) (c.in_default.ensures.1 raw_input e)

@@ -22,28 +22,3 @@ pub place_marked-requires : goal.place_marked-requires
 place_marked-requires c =
     let s = take c.args.n c.args.s.now in
     (omega (arith, tone_letter_below s _ (found s c.in-Some-tone_position.is c.tone_position.ensures), length-take c.args.n c.args.s.now), c.requires.0, c.requires.1)
-
-pub returns-in_default : goal.returns-in_default
-returns-in_default c =
-    λ raw_input e.
-    c.place_unmarked.ensures
-    ∙ ap (λ (mark : List ℕ). placed 0 (encode (composed_with unicode16 raw_input (take c.args.n c.args.s.now) mark)) c.args.out.now) (mark_told c.args.self.tone c.in_default.is c.mark_of.ensures)
-
-pub returns-in-None : goal.returns-in-None
-returns-in-None c =
-    λ raw_input e.
-    let s = take c.args.n c.args.s.now in
-    c.place_bytes.ensures
-    ∙ ap (λ (l : List ℕ). placed 0 l c.args.out.now) e
-    ∙ ap (λ (l : List ℕ). placed 0 (encode l) c.args.out.now)
-    (ap (composed_at unicode16 raw_input s (c.in-Some.mark ∷ [])) (sym (found s c.in-None.is c.tone_position.ensures))
-    ∙ ap (composed_with unicode16 raw_input s) (mark_told c.args.self.tone c.in-Some.is c.mark_of.ensures))
-
-pub returns-in-Some-tone_position : goal.returns-in-Some-tone_position
-returns-in-Some-tone_position c =
-    λ raw_input e.
-    let s = take c.args.n c.args.s.now in
-    c.place_marked.ensures
-    ∙ ap (λ (l : List ℕ). placed 0 (encode l) c.args.out.now)
-    (ap (composed_at unicode16 raw_input s (c.in-Some.mark ∷ [])) (sym (found s c.in-Some-tone_position.is c.tone_position.ensures))
-    ∙ ap (composed_with unicode16 raw_input s) (mark_told c.args.self.tone c.in-Some.is c.mark_of.ensures))
