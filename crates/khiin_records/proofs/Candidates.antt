@@ -40,10 +40,6 @@ use Rattle.khiin_records.proofs.RawBytes.{body_is}
 use Rattle.std.specs.Prelude.{Ok, Some, None}
 
 -- ── the call, once the text is checked
-pub candidate_refused : (text : List ℕ) (position : ℕ) (buffer : List ℕ) (why : Refusal) → check_text unicode16 text ≡ bad why → refused why buffer ≡ candidate_call unicode16 text position buffer
-unfolding candidate_call
-candidate_refused text position buffer why e = sym (ap (λ (k : Checked). candidate_of unicode16 k position buffer) e)
-
 pub candidate_good : (text : List ℕ) (position : ℕ) (buffer u : List ℕ) → check_text unicode16 text ≡ good u → 0 < length u
     → candidate_in (candidates_of (strip unicode16 u).tone (khin_in (strip unicode16 u).rest) (without_khin (strip unicode16 u).rest)) position buffer ≡ candidate_call unicode16 text position buffer
 unfolding candidate_call from_composed

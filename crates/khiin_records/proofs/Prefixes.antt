@@ -46,18 +46,6 @@ pub raw_written : (t : Tone) (k : Khin) (before mid after : List ℕ) (n len : �
 raw_written t k before mid after n len body w size is room = rw (size, is) (written_run w (tone_digit t ++ khin_key k) (omega (arith, keys_few t k)))
 
 -- ── the library's change of case
-lower_std : (x : ℕ) → lower x ≡ to_ascii_lowercase x
-unfolding lower
-lower_std x = by_place (dec_le 65 x) (dec_le x 90)
-  where
-    by_place : Dec (65 ≤ x) → Dec (x ≤ 90) → lower x ≡ to_ascii_lowercase x
-    by_place (no p) q = rw (lt-leb 65 x (omega arith), lt-ltb x 65 (omega arith)) refl
-    by_place (yes p) (yes q) = rw (le-leb 65 x p, le-leb x 90 q, le-ltb x 65 p, lt-ltb x 91 (omega arith)) refl
-    by_place (yes p) (no q) = rw (le-leb 65 x p, lt-leb x 90 (omega arith), le-ltb x 65 p, le-ltb x 91 (omega arith)) refl
-
-pub same_std : (k c : ℕ) → eqb (lower k) (lower c) ≡ eq_ignore_ascii_case k c
-same_std k c = ap₂ eqb (lower_std k) (lower_std c)
-
 pub shared_zip : (keys s : List ℕ) → shared_prefix keys s ≡ prefix_len (λ (p : ℕ × ℕ). eqb (lower p.0) (lower p.1)) (zip keys s)
 unfolding shared_prefix
 shared_zip [] s = refl
@@ -76,15 +64,6 @@ pub with_nothing : (keys : List ℕ) → shared_prefix keys [] ≡ 0
 unfolding shared_prefix
 with_nothing [] = refl
 with_nothing (k ∷ keys) = refl
-
-pub prefix_keys_end : (keys s : List ℕ) (i : ℕ) → length keys ≤ i → shared_prefix (drop i keys) s ≡ 0
-prefix_keys_end keys s i h = ap (λ (l : List ℕ). shared_prefix l s) (drop_of_length-le keys h) ∙ without_keys s
-
--- the first byte of a raw input
-pub prefix_first : (keys : List ℕ) (i x : ℕ) (s : List ℕ) → i < length keys
-    → shared_prefix (drop i keys) (x ∷ s) ≡ pick_number (eqb (lower (get_or keys i 0)) (lower x)) (suc (shared_prefix (drop (i + 1) keys) s)) 0
-unfolding shared_prefix
-prefix_first keys i x s more = ap (λ (l : List ℕ). shared_prefix l (x ∷ s)) (drop_next keys i more)
 
 pub prefix_fits : (keys s : List ℕ) → shared_prefix keys s ≤ length keys
 unfolding shared_prefix
@@ -265,12 +244,6 @@ module _ (s : List ℕ) (plain : all_ascii s ≡ true) where
 digit_one : (t : Tone) → is_tone t ≡ true → tone_digit t ≡ (point "0" + tone_number t) ∷ []
 digit_one t e = text_yes (is_tone t) ((point "0" + tone_number t) ∷ []) [] e
 
--- the keys behind a body, where it is known whether the first of them is shared
-pub digits_first : (keys : List ℕ) (at : ℕ) (t : Tone) (k : Khin) (x : ℕ) → tone_digit t ≡ x ∷ [] → (b : Bool)
-    → ((s : List ℕ) → shared_prefix (drop at keys) (x ∷ s) ≡ pick_number b (suc (shared_prefix (drop (at + 1) keys) s)) 0)
-    → shared_prefix (drop at keys) (tone_digit t ++ khin_key k) ≡ pick_number b (suc (shared_prefix (drop (at + 1) keys) (khin_key k))) 0
-digits_first keys at t k x is b f = ap (λ (l : List ℕ). shared_prefix (drop at keys) (l ++ khin_key k)) is ∙ f (khin_key k)
-
 -- whether the key at a place is the tone's digit, past the keys' end and before it
 module _ (keys : List ℕ) (n : ℕ) (t : Tone) (some : is_tone t ≡ true) where
   pub no_key : length keys ≤ n → same (take 1 (drop n keys)) (tone_digit t) ≡ false
@@ -327,14 +300,6 @@ aligned_inside keys t k u some = aligned_fits keys (nearest_of keys (candidates_
 
 -- ── the call, once the texts are checked
 module _ (t : Table) (keys target buffer : List ℕ) where
-  pub align_keys_refused : (why : Refusal) → check_keys keys ≡ bad why → refused why buffer ≡ align_call t keys target buffer
-  unfolding align_call
-  align_keys_refused why e = sym (ap (λ (k : Checked). align_of t k (check_text t target) buffer) e)
-
-  pub align_keys_good : (checked : List ℕ) → check_keys keys ≡ good checked → align_of t (good checked) (check_text t target) buffer ≡ align_call t keys target buffer
-  unfolding align_call
-  align_keys_good checked e = sym (ap (λ (k : Checked). align_of t k (check_text t target) buffer) e)
-
   pub align_target_refused : (why : Refusal) → check_text t target ≡ bad why → refused why buffer ≡ align_of t (good keys) (check_text t target) buffer
   align_target_refused why e = sym (ap (λ (k : Checked). align_of t (good keys) k buffer) e)
 

@@ -73,23 +73,6 @@ written_size n text after buffer e = by_room (leb (length text) (length buffer))
     by_room false f = absurd (let z : ◌≡◌ {A = ℕ} 0 7 = ap (λ (q : Reply). q.code) f in omega arith)
 
 -- ── from_raw
--- the check of keys, case by case
-module _ (s : List ℕ) where
-  pub keys_long : 256 < length s → check_keys s ≡ bad TooLong
-  unfolding check_keys
-  keys_long h = ap (λ (b : Bool). pick_checked b (pick_checked (all_ascii s) (good s) (bad OutsideTable)) (bad TooLong)) (lt-leb (length s) 256 h)
-
-  module _ (h : length s ≤ 256) where
-    keys_short : check_keys s ≡ pick_checked (all_ascii s) (good s) (bad OutsideTable)
-    unfolding check_keys
-    keys_short = ap (λ (b : Bool). pick_checked b (pick_checked (all_ascii s) (good s) (bad OutsideTable)) (bad TooLong)) (le-leb (length s) 256 h)
-
-    pub keys_outside : all_ascii s ≡ false → check_keys s ≡ bad OutsideTable
-    keys_outside e = keys_short ∙ ap (λ (b : Bool). pick_checked b (good s) (bad OutsideTable)) e
-
-    pub keys_pass : all_ascii s ≡ true → check_keys s ≡ good s
-    keys_pass e = keys_short ∙ ap (λ (b : Bool). pick_checked b (good s) (bad OutsideTable)) e
-
 -- where the last key is a tone there is one
 pub toned_some : (s : List ℕ) → is_tone (key_tone (last s)) ≡ true → 0 < length s
 unfolding key_tone last

@@ -23,10 +23,6 @@ pub begins_first : (a : ℕ) (p s : List ℕ) (i : ℕ) → i < length s → beg
 unfolding begins
 begins_first a p s i h = ap (begins (a ∷ p)) (drop_next s i h)
 
-pub begins_over : (a : ℕ) (p s : List ℕ) (i : ℕ) → length s ≤ i → begins (a ∷ p) (drop i s) ≡ false
-unfolding begins
-begins_over a p s i h = ap (begins (a ∷ p)) (drop_of_length-le s h)
-
 pub begins_nothing : (s : List ℕ) → begins [] s ≡ true
 unfolding begins
 begins_nothing s = refl

@@ -289,10 +289,6 @@ module _ (key : ℕ) (given text : List ℕ) (is : check_points unicode16 (decod
       ∙ sym (edit_at_law key given)
 
 module _ (k : ToneKeys) (key : ℕ) (tone : Tone) (given : List ℕ) where
-  pub edit_behind : repeats_tone k key tone ≡ true → Behind ≡ edit_of k key tone given
-  unfolding edit_of
-  edit_behind e = sym (ap (λ (b : Bool). pick_edit b Behind (edit_at key given)) e)
-
   pub edit_else : repeats_tone k key tone ≡ false → edit_at key given ≡ edit_of k key tone given
   unfolding edit_of
   edit_else e = sym (ap (λ (b : Bool). pick_edit b Behind (edit_at key given)) e)
@@ -403,36 +399,6 @@ module _ (k : ToneKeys) (key : ℕ) (s : List ℕ) (h : all_ascii s ≡ true) wh
       step_is unicode16 k key s (strip unicode16 s).tone (strip unicode16 s).rest (letter_stripped unicode16 s)
       ∙ ap₂ (λ (o : Tone) (r : List ℕ). edited unicode16 k (edit_of k key o s) key o r) (ascii_tone s h) (ascii_stripped s h)
       ∙ ap (λ (e : Edit). edited unicode16 k e key (unmarked_tone s) s) ascii_edit
-
--- ── composing
-module _ (t : Table) (k : ToneKeys) (key : ℕ) (tone : Tone) (rest : List ℕ) where
-  abbrev takes : Bool
-  takes = not (is_first tone) || is_some (tone_letter rest)
-
-  abbrev typed : Bool → Bool → List ℕ
-  typed b c = pick_text b (pick_text c (toned t k key rest) (joined t k key tone rest)) (bare t key rest)
-
-  abbrev raw : List ℕ
-  raw = rest ++ (key ∷ [])
-
-  -- a tone key, of the tone that was found
-  pub composed_toned : (low : ℕ) (found spoken : Tone) → takes ≡ true → low ≡ lower key → found ≡ key_to_tone k low → is_tone found ≡ true → spoken ≡ shared_or k low found rest → compose t raw rest spoken No ≡ composed_of t k key tone rest
-  unfolding composed_of
-  composed_toned low found spoken y el ef is es =
-      let f : found ≡ key_to_tone k (lower key) = ef ∙ ap (key_to_tone k) el in
-      ap (λ (o : Tone). compose t raw rest o No) (es ∙ ap₂ (λ (l : ℕ) (o : Tone). shared_or k l o rest) el f)
-      ∙ sym (ap₂ typed y (ap is_tone (sym f) ∙ is))
-
-  -- any other key, and the tone that the text has
-  pub composed_joined : (low : ℕ) (found : Tone) (old : ℕ) (spoken : Tone) (whole : List ℕ) → takes ≡ true → low ≡ lower key → found ≡ key_to_tone k low → is_tone found ≡ false → old ≡ tone_to_key k tone → whole ≡ grown key rest → spoken ≡ shared_or k old tone whole → compose t raw whole spoken No ≡ composed_of t k key tone rest
-  unfolding composed_of
-  composed_joined low found old spoken whole y el ef is eo ew es =
-      ap₂ (λ (w : List ℕ) (o : Tone). compose t raw w o No) ew (es ∙ ap₂ (λ (l : ℕ) (w : List ℕ). shared_or k l tone w) eo ew)
-      ∙ sym (ap₂ typed y (ap is_tone (sym (ef ∙ ap (key_to_tone k) el)) ∙ is))
-
-  pub composed_bare : (whole : List ℕ) → takes ≡ false → whole ≡ grown key rest → compose t raw whole None No ≡ composed_of t k key tone rest
-  unfolding composed_of
-  composed_bare whole n ew = ap (λ (w : List ℕ). compose t raw w None No) ew ∙ sym (ap (λ (b : Bool). typed b (is_tone (key_to_tone k (lower key)))) n)
 
 -- ── the buffer of code points
 -- without the last two code points, one after the other

@@ -62,10 +62,6 @@ module _ (lengths : List (List ℕ)) (radices : List ℕ) where
       let z : suc i - 1 ≡ i = omega arith in
       rw (e, f, z)
 
-  pub length_none : (position : ℕ) → length_in lengths radices zero position ≡ 0
-  unfolding length_in
-  length_none position = refl
-
 module _ (offsets lengths : List (List ℕ)) (radices : List ℕ) (used : ℕ) where
   pub digit_inside : (n i position value : ℕ) → Laid offsets lengths radices n used → i < n → value ≡ position % get_or radices i 0 → get_or (get_or offsets i []) value 0 + get_or (get_or lengths i []) value 0 ≤ used
   digit_inside n i position value h k e = (h i k).inside value (digit_below position _ value (h i k).few e)

@@ -19,10 +19,6 @@ use Rattle.ji.proofs.Bools.{false_true, either, or_yes, or_no, text_yes, text_no
 abbrev pub marked : List ℕ → Bool
 marked s = begins (bytes "--") s || begins (bytes "·") s
 
-pub marked_is : (s : List ℕ) → marked s ≡ (begins (0x2D ∷ 0x2D ∷ []) s || begins (0xC2 ∷ 0xB7 ∷ []) s)
-unfolding encode bytes_of
-marked_is s = refl
-
 pub marked_fits : (s : List ℕ) → marked s ≡ true → 2 ≤ length s
 unfolding encode bytes_of
 marked_fits s e = either (begins (bytes "--") s) (λ h. begins_length (bytes "--") s h) (λ h. begins_length (bytes "·") s (sym (or_no _ _ h) ∙ e))
@@ -39,14 +35,6 @@ after_none s e =
 -- the part of a slice from the mark's end on
 pub part_after : (s : List ℕ) → marked s ≡ true → take (length s - 2) (drop 2 s) ≡ after_khin s
 part_after s e = part_is s 2 ∙ sym (after_mark_law s e)
-
-pub khin_yes : (s : List ℕ) → marked s ≡ true → khin_of s ≡ Yes
-unfolding khin_of
-khin_yes s e = ap (λ (b : Bool). pick_khin b Yes No) e
-
-pub khin_no : (s : List ℕ) → marked s ≡ false → khin_of s ≡ No
-unfolding khin_of
-khin_no s e = ap (λ (b : Bool). pick_khin b Yes No) e
 
 pub after_khin_length : (s : List ℕ) → length (after_khin s) ≤ length s
 after_khin_length s =

@@ -57,22 +57,10 @@ first_letter k h =
     k h
 
 -- ── letters
--- x is one of the letters xs, or none of them
-pub listed_is : (xs : List ℕ) (y x : ℕ) → listed xs y ≡ true → x ≡ y → true ≡ listed xs x
-listed_is xs y x h e = sym (ap (listed xs) e ∙ h)
-
 pub listed_none : (xs : List ℕ) (x : ℕ) → All (λ y. x ≡ y → ⊥) xs → false ≡ listed xs x
 unfolding listed
 listed_none [] x h = refl
 listed_none (y ∷ xs) x h = listed_none xs x h.1 ∙ sym (or_no _ _ (ne_eqb y x (λ e. h.0 (sym e))))
-
--- two letters beside each other
-pub listed_pair : (xs : List ℕ) (y x : ℕ) → listed xs y ≡ true → listed xs (y + 1) ≡ true → y ≤ x → x < y + 2 → true ≡ listed xs x
-listed_pair xs y x h k l u = by_first_law (ℕ_discrete x y)
-  where
-    by_first_law : Dec (x ≡ y) → true ≡ listed xs x
-    by_first_law (yes e) = listed_is xs y x h e
-    by_first_law (no n) = let e : x ≡ y + 1 = omega arith in listed_is xs (y + 1) x k e
 
 pub listed_one : (y x : ℕ) → listed (y ∷ []) x ≡ eqb y x
 unfolding listed

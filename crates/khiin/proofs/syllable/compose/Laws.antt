@@ -40,14 +40,6 @@ get_d_start : (s : List ℕ) (i : ℕ) → get_or (drop i s) 0 0 ≡ get_or s i 
 get_d_start s i = let z : i + 0 ≡ i = omega arith in get_or-drop i s 0 0 ∙ ap (λ (k : ℕ). get_or s k 0) z
 
 -- ── the front of a buffer
-module _ {buffer : List ℕ} {n : ℕ} {s : List ℕ} (h : Front buffer n s) where
-  pub front_fits : n ≤ length buffer
-  front_fits = omega (arith, length-take n buffer, ap length h.is, h.size)
-
-  -- it is the front of a longer buffer too
-  pub front_longer : (rest : List ℕ) → Front (buffer ++ rest) n s
-  front_longer rest = record { is = take-append-le n buffer rest front_fits ∙ h.is; size = h.size }
-
 pub front_written : {before after : List ℕ} {n : ℕ} {s : List ℕ} → Written before after n s → Front after n s
 front_written w = record { is = written_take w; size = w.size }
 
@@ -157,9 +149,6 @@ module _ (s : List ℕ) (h : 3 ≤ length s) where
       nasal_read
       ∙ ap (λ (b : Bool). ending b (eqb (letter 1) (point "n"))) (ne_eqb _ _ n)
       ∙ and_no _ _ (and_false (listed (marked "aeiouptkhm" 0x0358) (letter 3)))
-
-  pub nasal_by_letter : letter 2 ≡ point "n" → letter 1 ≡ point "n" → ends_nasal s ≡ listed (marked "aeiouptkhm" 0x0358) (letter 3)
-  nasal_by_letter e f = nasal_read ∙ ap₂ ending (eq-eqb _ _ e) (eq-eqb _ _ f) ∙ and_true _ ∙ and_true (listed (marked "aeiouptkhm" 0x0358) (letter 3))
 
 -- past the end 0 is read, which no O rule has
 dot_zeros : (s : List ℕ) → takes_dot s ≡ takes_dot (get_or s 0 0 ∷ get_or s 1 0 ∷ get_or s 2 0 ∷ [])
@@ -467,26 +456,7 @@ module _ (s : List ℕ) (n k x : ℕ) (h : n < length s) (l : k ≤ n) where
       (ap (λ (j : ℕ). take j (drop k (take (n + 1) s))) whole ∙ inserted_rest)
 
 -- ── the front of a buffer, step by step
--- a part `[..n]` that holds u was changed to hold f u at its front
-pub front_step : {buffer : List ℕ} {n : ℕ} {u : List ℕ} → Front buffer n u → (f : List ℕ → List ℕ) {part : List ℕ} {m : ℕ} → Front part m (f (take n buffer)) → (rest : List ℕ) → Front (part ++ rest) m (f u)
-front_step h f {part} {m} g rest = front_longer (subst (λ (t : List ℕ). Front part m (f t)) h.is g) rest
-
--- a text behind what was written
-pub front_behind : {before after : List ℕ} {n : ℕ} {u : List ℕ} → Written before after n u → {part : List ℕ} {m : ℕ} {v : List ℕ} → Front part m v → Front (take n after ++ part) (n + m) (u ++ v)
-front_behind {n = n} {u = u} w {part} {m} {v} g =
-    record {
-      is = ap (λ (t : List ℕ). take (n + m) (t ++ part)) (written_take w)
-          ∙ ap (λ (k : ℕ). take (k + m) (u ++ part)) (sym w.size)
-          ∙ take-append-add u part m
-          ∙ ap (λ (t : List ℕ). u ++ t) g.is;
-      size = length-append u v ∙ ap₂ ◌+◌ w.size g.size;
-    }
-
 -- ── compose
-pub nasalised_yes : (s : List ℕ) → ends_nasal s ≡ true → nasalised s ≡ respell nasal_rules s
-unfolding nasalised
-nasalised_yes s e = text_yes (ends_nasal s) _ _ e
-
 pub nasalised_no : (s : List ℕ) → ends_nasal s ≡ false → nasalised s ≡ s
 unfolding nasalised
 nasalised_no s e = text_no (ends_nasal s) _ _ e

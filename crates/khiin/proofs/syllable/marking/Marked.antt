@@ -16,14 +16,6 @@ use Rattle.khiin.specs.Compose.{stays_behind, settled_from}
 use Rattle.khiin.proofs.syllable.marking.Settled.{IsMark, Fits, encoded_one, encoded_none}
 
 -- ── the walk that tells whether a text is settled
-pub settled_step : (before : ℕ) (s : List ℕ) (i : ℕ) → i < length s → stays_behind before (get_or s i 0) ≡ true → settled_from before (drop i s) ≡ settled_from (get_or s i 0) (drop (i + 1) s)
-unfolding settled_from
-settled_step before s i h e = ap (settled_from before) (drop_next s i h) ∙ and_yes _ _ e
-
-pub settled_end : (before : ℕ) (s : List ℕ) (i : ℕ) → length s ≤ i → settled_from before (drop i s) ≡ true
-unfolding settled_from
-settled_end before s i h = ap (settled_from before) (drop_of_length-le s h)
-
 -- ── a settled text with a tone mark behind the letter at k
 module _ (s : List ℕ) (k m : ℕ) (h : settled_from 0 s ≡ true) (l : k < length s) (low : get_or s k 0 < 0xC0) (mark : IsMark m) where
   abbrev x : ℕ

@@ -1,8 +1,5 @@
-use Rattle.std.proofs.lemmas.Result.{err_from_is_err_and}
 use Rattle.std.proofs.lemmas.List.{length-take-le}
 use mathlib.Core.Path.{sym, ap₂, ◌∙◌}
-use Prim.Native.Nat.{ℕ}
-use lib.ListN.{length-replicate}
 use native.Mathlib.Omega.{arith}
 use Rattle.ji.specs.Unicode.{unicode16}
 use Rattle.ji.specs.Lomaji.Strip.{strip}
@@ -14,7 +11,7 @@ use Rattle.ji.proofs.unicode.Checked.{text_passed}
 use Rattle.khiin_records.specs.Syllable.{candidates_of}
 use Rattle.khiin_records.specs.Alignment.{nearest_of, aligned_with}
 use Rattle.khiin_records.proofs.Candidates.{some_points}
-use Rattle.khiin_records.proofs.Prefixes.{aligned_inside, aligned_text, align_target_refused, align_target_good}
+use Rattle.khiin_records.proofs.Prefixes.{aligned_inside, aligned_text, align_target_good}
 use Rattle.khiin_records.proofs.alignment.align_within.Goals as goal
 
 pub slice_bounds-place_keys-end : goal.slice_bounds-place_keys-end

@@ -1,8 +1,4 @@
-use Rattle.std.proofs.lemmas.Result.{err_from_is_err_and}
 use mathlib.Core.Path.{ap₂, ◌∙◌}
-use Prim.Native.Nat.{ℕ}
-use lib.ListN.{length-replicate}
-use native.Mathlib.Omega.{arith}
 use Rattle.ji.specs.Unicode.{unicode16}
 use Rattle.ji.specs.Lomaji.Strip.{strip}
 use Rattle.ji.specs.Lomaji.Khin.{without_khin}
@@ -12,7 +8,7 @@ use Rattle.ji.proofs.lomaji.strip.Answers.{stripped_inside}
 use Rattle.ji.proofs.unicode.Checked.{text_passed}
 use Rattle.khiin_records.specs.Syllable.{candidates_of, candidate_in}
 use Rattle.khiin_records.proofs.Records.{members_behind}
-use Rattle.khiin_records.proofs.Candidates.{candidate_refused, candidate_good, some_points}
+use Rattle.khiin_records.proofs.Candidates.{candidate_good, some_points}
 use Rattle.khiin_records.proofs.from_composed.candidate_within.Goals as goal
 
 pub returns : goal.returns

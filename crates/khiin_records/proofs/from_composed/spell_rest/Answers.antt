@@ -4,10 +4,9 @@ use mathlib.Core.List.{List}
 use Prim.Native.Nat.{ℕ, ◌+◌, ◌-◌, ◌≤◌, ◌<◌}
 use lib.ListN.{length, drop, get_or, length-set}
 use Rattle.ji.specs.Text.{begins}
-use Rattle.ji.proofs.Bools.{and_left}
 use Rattle.ji.proofs.Writing.{written_length}
 use Rattle.khiin_records.specs.RawBytes.{takes_below, dot, nasal, below, byte_before, Walking}
-use Rattle.khiin_records.proofs.Walking.{begins_fits, before_some, below_some, walk_dot, walk_nasal, walk_below, walk_copy, walk_end}
+use Rattle.khiin_records.proofs.Walking.{begins_fits, before_some, below_some, walk_dot, walk_nasal, walk_below, walk_copy}
 use native.Mathlib.Omega.{arith}
 use Rattle.khiin_records.proofs.from_composed.spell_rest.Goals as goal
 use Rattle.khiin_records.proofs.from_composed.spell_rest.Goals.{Else-is_nasal, In-loop-i, Then-is_below}

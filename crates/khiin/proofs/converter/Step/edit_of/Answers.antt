@@ -1,5 +1,5 @@
 use mathlib.Core.Path.{sym, ◌∙◌, ◌≡◌}
-use Rattle.khiin.proofs.converter.Laws.{edit_behind, edit_else, edit_other}
+use Rattle.khiin.proofs.converter.Laws.{edit_else, edit_other}
 use borrow.Author.Rules.{rules}
 use native.Mathlib.Omega.{arith}
 use Rattle.khiin.proofs.converter.Step.edit_of.Goals as goal

@@ -4,7 +4,7 @@ use mathlib.Core.List.{List, [], ◌∷◌, ◌++◌, append_assoc}
 use Prim.Native.Nat.{ℕ, ◌+◌, ◌≤◌, ◌<◌}
 use native.Mathlib.Numerals.{add-one}
 use lib.Dec.{eqb}
-use lib.ListN.{length, take, set, length-set}
+use lib.ListN.{length, take, set}
 use lib.Seq.{take-suc-set}
 use Rattle.ji.specs.Text.{lower, but_last}
 use Rattle.ji.specs.Unicode.{unicode16, pick_number}
@@ -16,7 +16,6 @@ use Rattle.khiin.specs.declared.converter.Edit.{Edit}
 use Rattle.khiin.proofs.converter.Laws.{but_two, key_behind, cut_bytes}
 use native.Mathlib.Omega.{arith}
 use Rattle.khiin.proofs.converter.Step.finish.Goals as goal
-use Rattle.khiin.proofs.converter.Step.finish.Goals.{After-e_like}
 
 e_small : (key : ℕ) → e_like key ≤ 0x7F
 e_small key = by_case (eqb (lower key) key)

@@ -6,7 +6,6 @@ use Rattle.ji.specs.Lomaji.Keys.{respell}
 use Rattle.khiin.specs.Syllable.{nasal_rules}
 use Rattle.khiin.specs.Compose.{Front}
 use Rattle.khiin.proofs.syllable.compose.Once.{nasal_three, end_capital, end_small, front_signed}
-use native.Mathlib.Omega.{arith}
 use Rattle.khiin.proofs.syllable.compose.end_in_sign.Goals as goal
 use Rattle.khiin.proofs.syllable.compose.end_in_sign.Goals.{then-s-n-eq-CAPITAL_N+then-s-n-eq-CAPITAL_N-2, else-s-n-eq-CAPITAL_N, else-s-n-eq-CAPITAL_N-via-then-s-n-eq-CAPITAL_N+else-s-n-eq-CAPITAL_N-2, else-s-n-eq-CAPITAL_N-via-else-s-n-eq-CAPITAL_N}
 

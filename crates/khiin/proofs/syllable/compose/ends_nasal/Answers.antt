@@ -1,9 +1,6 @@
-use mathlib.Core.Path.{sym, ap, ◌∙◌}
-use borrow.Author.Tests.{ltb-true, eqb-true, eqb-false}
-use Rattle.ji.specs.Unicode.{listed}
-use Rattle.ji.specs.Text.{marked}
-use Rattle.ji.proofs.Bools.{false_true}
-use Rattle.khiin.proofs.syllable.compose.Laws.{nasal_short, nasal_not_last, nasal_not_second, nasal_by_letter}
+use mathlib.Core.Path.{sym, ◌∙◌}
+use borrow.Author.Tests.{eqb-false}
+use Rattle.khiin.proofs.syllable.compose.Laws.{nasal_short, nasal_not_last, nasal_not_second}
 use native.Mathlib.Omega.{arith}
 use Rattle.khiin.proofs.syllable.compose.ends_nasal.Goals as goal
 use Rattle.khiin.proofs.syllable.compose.ends_nasal.Goals.{then-n-gt2, else-n-gt2, then-lower-eq-N, else-lower-eq-N}

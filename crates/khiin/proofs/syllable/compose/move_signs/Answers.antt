@@ -1,11 +1,8 @@
 use mathlib.Core.Path.{sym, subst}
 use lib.ListN.{length}
-use Rattle.ji.proofs.Bools.{false_true}
-use Rattle.khiin.specs.Syllable.{moved}
 use Rattle.khiin.specs.Compose.{Front, NoSignBefore}
-use Rattle.khiin.proofs.syllable.compose.Laws.{front_fits, front_whole, front_step}
+use Rattle.khiin.proofs.syllable.compose.Laws.{front_whole}
 use Rattle.khiin.proofs.syllable.compose.Once.{moved_none_lone}
-use native.Mathlib.Omega.{arith}
 use Rattle.khiin.proofs.syllable.compose.move_signs.Goals as goal
 
 pub returns-else-has_sign : goal.returns-else-has_sign

@@ -5,10 +5,10 @@ use Prim.Native.Nat.{ℕ, ◌+◌, ◌-◌, ◌≤◌, ◌<◌}
 use lib.Dec.{eqb}
 use lib.Seq.{take_all}
 use Rattle.std.specs.List.{starts_with}
-use lib.ListN.{length, take, drop, get_or, set, length-drop, length-set}
+use lib.ListN.{length, take, drop, get_or, set, length-drop}
 use Rattle.ji.specs.Text.{begins, replace_all}
-use Rattle.ji.proofs.text.Laws.{begins_length, replace_at_hit, replace_at_miss, replace_end}
-use Rattle.khiin.proofs.syllable.compose.Laws.{begins_told, Walk, walk_start, walk_length, walk_unread, walk_here, walk_one, walk_end}
+use Rattle.ji.proofs.text.Laws.{begins_length, replace_at_hit, replace_at_miss}
+use Rattle.khiin.proofs.syllable.compose.Laws.{begins_told, Walk, walk_length, walk_unread, walk_here, walk_one}
 use native.Mathlib.Omega.{arith}
 use Rattle.khiin.proofs.syllable.compose.shrink_pair.Goals as goal
 

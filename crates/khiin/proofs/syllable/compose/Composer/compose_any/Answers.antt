@@ -1,6 +1,6 @@
 use mathlib.Core.Path.{refl, sym, ap, ◌∙◌}
 use Rattle.ji.specs.Unicode.{unicode16}
-use Rattle.ji.specs.Reply.{Checked, good, check_text}
+use Rattle.ji.specs.Reply.{Checked, good}
 use Rattle.ji.proofs.Replies.{check_within_law}
 use Rattle.ji.proofs.unicode.Ascii.{ascii_good}
 use Rattle.khiin.specs.Syllable.{compose_of}

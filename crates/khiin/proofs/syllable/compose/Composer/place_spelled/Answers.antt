@@ -1,16 +1,11 @@
 use mathlib.Core.Path.{◌≡◌, sym, ap, ◌∙◌}
-use mathlib.Core.List.{List, ◌∷◌, []}
+use mathlib.Core.List.{List, []}
 use Prim.Native.Nat.{ℕ}
 use lib.ListN.{take, length-take}
-use Rattle.ji.specs.Unicode.{unicode16}
-use Rattle.ji.specs.Utf8.{encode}
-use Rattle.ji.specs.Reply.{placed}
 use Rattle.ji.specs.Lomaji.ToneLetter.{tone_letter, place_of}
 use Rattle.std.specs.Prelude.{Option}
 use Rattle.ji.specs.declared.unicode.CharLen.{CharLen}
 use Rattle.ji.proofs.lomaji.tone_letter.Laws.{tone_letter_below}
-use Rattle.khiin.specs.Syllable.{composed_at, composed_with}
-use Rattle.khiin.proofs.syllable.marking.Letters.{mark_told}
 use native.Mathlib.Omega.{arith}
 use Rattle.khiin.proofs.syllable.compose.Composer.place_spelled.Goals as goal
 
