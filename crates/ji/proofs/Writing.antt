@@ -2,12 +2,11 @@
 use mathlib.Core.Path.{◌≡◌, refl, sym, ap, ap₂, subst, ◌∙◌}
 use mathlib.Core.List.{List, [], ◌∷◌, ◌++◌, append_assoc, append-nil}
 use Prim.Native.Nat.{ℕ, suc, ◌+◌, ◌-◌, ◌≤◌, ◌<◌}
-use native.Mathlib.Nat.{sub-zero}
 use native.Mathlib.Numerals.{add-one, add-two}
 use native.Mathlib.Omega.{arith}
 use native.Mathlib.Decide.{ℕ_discrete, dec_lt}
 use lib.ListN.{length, take, drop, get_or, set, length-set, length-append, length-drop, drop_of_length-le, get_or-append}
-use lib.Seq.{drop-cons, set_at, append_snoc, take_at, drop_at, drop-drop, get_or-append-add, get_or-drop, get_or-set_same, get_or-set_other, ext_get_or, paste, take-length, take_all, take-suc-set, sets-eq}
+use lib.Seq.{drop-cons, set_at, append_snoc, take_at, drop_at, drop-drop, get_or-append-add, get_or-drop, get_or-set_same, get_or-set_other, ext_get_or, paste, take-length, take_all, sets-eq}
 use Rattle.ji.specs.Written.{Written, Covers}
 
 -- before the first store

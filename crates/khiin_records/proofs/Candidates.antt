@@ -14,10 +14,9 @@ use Rattle.ji.specs.Utf8.{encode}
 use Rattle.ji.specs.Written.{Written}
 use Rattle.ji.specs.Tone.{tone_number, is_tone, pick_tone}
 use Rattle.ji.specs.Nfd.{nfd}
-use Rattle.ji.specs.Reply.{refused, Checked, good, bad, check_text}
+use Rattle.ji.specs.Reply.{refused, Checked, good, check_text}
 use Rattle.ji.specs.Lomaji.Khin.{without_khin, khin_in}
 use Rattle.ji.specs.Lomaji.Strip.{tone_marks, tone_in, mark_in, mark_tone, is_tone_mark, dropped_marks, last_tone, unmarked_tone, stripped, strip, ends_in_any, stop_endings}
-use Rattle.ji.specs.declared.reply.Refusal.{Refusal}
 use Rattle.ji.specs.declared.reply.Refusal.TheVariants.{Position}
 use Rattle.ji.specs.declared.tone.Tone.{Tone}
 use Rattle.ji.specs.declared.tone.Tone.TheVariants.{T1, T4}

@@ -6,7 +6,7 @@ use mathlib.Core.List.{List, [], ◌∷◌, ◌++◌, append_assoc, append-nil}
 use Prim.Native.Nat.{ℕ, suc, ◌+◌, ◌≤◌, ◌<◌}
 use native.Mathlib.Decide.{dec_le}
 use native.Mathlib.Omega.{arith}
-use borrow.Author.Tests.{lt-ltb, le-ltb, le-leb, lt-leb, eq-eqb, ne_eqb, eqb-true, eqb-false}
+use borrow.Author.Tests.{eq-eqb, ne_eqb, eqb-true, eqb-false}
 use lib.Dec.{leb, eqb}
 use lib.ListN.{length, take, drop, get_or, drop_of_length-le}
 use lib.Seq.{paste}
@@ -28,9 +28,9 @@ use Rattle.ji.proofs.text.Laws.{drop_next}
 use Rattle.ji.proofs.lomaji.dot.Laws.{dot_listed}
 use Rattle.ji.proofs.unicode.Ascii.{ascii_low, ascii_rest}
 use Rattle.ji.proofs.unicode.Bytes.{bytes_one, bytes_two, bytes_three, bytes_four, encode_nil, encode_cons}
-use Rattle.khiin_records.specs.Syllable.{Syllable, raw, pick_syllable, default, tone_digit, khin_key, candidate, candidates_of, from_composed, from_raw, placed_record, check_keys}
+use Rattle.khiin_records.specs.Syllable.{Syllable, raw, pick_syllable, default, tone_digit, khin_key, candidate, candidates_of, from_composed, from_raw, placed_record}
 use Rattle.khiin_records.specs.RawBytes.{Body, body_from, body_of}
-use Rattle.khiin_records.specs.Alignment.{shared_prefix, longer, nearest, nearest_of, grows, aligned_with, aligned, align_of, align_call}
+use Rattle.khiin_records.specs.Alignment.{shared_prefix, longer, nearest, nearest_of, grows, aligned_with, aligned, align_of}
 use Rattle.khiin_records.specs.Endings.{keys_of}
 use Rattle.khiin_records.specs.Prefixes.{NearestPrefix}
 use Rattle.khiin_records.specs.declared.ending.Ending.{Ending}
@@ -38,7 +38,6 @@ use Rattle.khiin_records.proofs.RawBytes.{from_copy, body_is}
 use Rattle.khiin_records.proofs.Records.{candidates_two, candidates_one}
 use Rattle.khiin_records.proofs.Candidates.{raw_bytes, keys_few}
 use Rattle.std.specs.List.{prefix_len, zip}
-use Rattle.std.specs.Char.{to_ascii_lowercase, eq_ignore_ascii_case}
 
 -- ── a raw input that was written: the body, and the keys behind it
 pub raw_written : (t : Tone) (k : Khin) (before mid after : List ℕ) (n len : ℕ) (body : List ℕ) → Written before mid n body → len ≡ n + length (tone_digit t ++ khin_key k)

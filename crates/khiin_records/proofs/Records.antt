@@ -2,9 +2,8 @@
 use mathlib.Core.Path.{◌≡◌, refl, sym, ap, ap₂, ◌∙◌}
 use mathlib.Core.Bool.{Bool, true, false}
 use mathlib.Core.List.{List, [], ◌∷◌, ◌++◌, append-nil}
-use Prim.Native.Nat.{ℕ, zero, suc, ◌+◌, ◌-◌, ◌≤◌, ◌<◌}
+use Prim.Native.Nat.{ℕ, zero, suc, ◌+◌, ◌-◌, ◌<◌}
 use native.Mathlib.Omega.{arith}
-use borrow.Author.Tests.{le-leb, lt-leb}
 use lib.Dec.{leb}
 use lib.ListN.{length, take, drop, length-append}
 use lib.Seq.{length-take-le}
@@ -12,10 +11,10 @@ use Rattle.ji.specs.Unicode.{unicode16, member, members, listed, pick_text}
 use Rattle.ji.specs.Text.{points, begins, all_ascii, but_last, last}
 use Rattle.ji.specs.Utf8.{encode}
 use Rattle.ji.specs.Tone.{is_tone}
-use Rattle.ji.specs.Reply.{Reply, refused, over, pick_reply, answered, placed, good, bad, pick_checked}
+use Rattle.ji.specs.Reply.{Reply, refused, over, pick_reply, answered, placed}
 use Rattle.ji.specs.Lomaji.Khin.{without_khin}
 use Rattle.ji.specs.declared.reply.Refusal.{Refusal}
-use Rattle.ji.specs.declared.reply.Refusal.TheVariants.{TooLong, OutsideTable, NoRoom}
+use Rattle.ji.specs.declared.reply.Refusal.TheVariants.{NoRoom}
 use Rattle.ji.specs.declared.tone.Tone.{Tone}
 use Rattle.ji.specs.declared.tone.Tone.TheVariants.{None, T1, T2, T3, T4, T5, T6, T7, T8, T9}
 use Rattle.ji.specs.declared.lomaji.khin.Khin.{Khin}
@@ -24,7 +23,7 @@ use Rattle.ji.proofs.Bools.{either, false_true, and_right, text_yes, text_no}
 use Rattle.ji.proofs.Replies.{refusal_some}
 use Rattle.ji.proofs.unicode.Ascii.{ascii_bytes, ascii_take}
 use Rattle.ji.proofs.unicode.Bytes.{but_last_law, encode_append}
-use Rattle.khiin_records.specs.Syllable.{Syllable, raw, pick_syllable, key_tone, from_raw, check_keys, recorded, placed_record, record_reply, tone_digit, khin_key, candidate, pick_syllables, candidates_of}
+use Rattle.khiin_records.specs.Syllable.{Syllable, raw, pick_syllable, key_tone, from_raw, recorded, placed_record, record_reply, tone_digit, khin_key, candidate, pick_syllables, candidates_of}
 use Rattle.khiin_records.specs.Records.{RecordOf}
 use Rattle.khiin_records.specs.declared.Record.{Record}
 use Rattle.std.specs.Prelude.{Ok}

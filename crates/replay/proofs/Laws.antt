@@ -5,8 +5,8 @@ use mathlib.Core.List.{List, [], ◌++◌}
 use Prim.Native.Nat.{ℕ, ◌+◌, ◌≤◌, ◌<◌, ◌-◌}
 use native.Mathlib.Omega.{arith}
 use lib.Dec.{eqb}
-use lib.ListN.{length, get_or, take, drop, length-append, length-drop, length-replicate, get_or-replicate, take-append-drop}
-use lib.Seq.{ext_get_or, take_all, take-append_seam, drop-append_seam}
+use lib.ListN.{length, get_or, take, drop, length-append, length-replicate, get_or-replicate}
+use lib.Seq.{ext_get_or, drop-append_seam}
 use borrow.Author.Tests.{eq-eqb, eqb-true, leb-true}
 use Rattle.std.specs.Prelude.{◌≢◌, Option as Found, Some, None}
 use Rattle.std.specs.Option.{MatchOption}

@@ -1,5 +1,5 @@
 -- What a record says that its call replies, and how the call is to leave the buffer.
-use Rattle.std.specs.Prelude.{◌≡◌, Bool, true, ◌&&◌, ◌||◌, cond, List, ◌++◌, ℕ, ◌-◌, leb, eqb, length, replicate}
+use Rattle.std.specs.Prelude.{◌≡◌, Bool, ◌&&◌, ◌||◌, cond, List, ◌++◌, ℕ, ◌-◌, leb, eqb, length, replicate}
 use Rattle.ji.specs.Reply.{Reply}
 use Rattle.replay.specs.declared.record.Header.{Header}
 

@@ -19,8 +19,7 @@ use Rattle.ji.specs.Tone.{is_tone, pick_tone}
 use Rattle.ji.specs.Lomaji.Strip.{ends_in_any, stop_endings, unmarked_tone, strip}
 use Rattle.ji.specs.Lomaji.ToneLetter.{tone_letter, is_some, has_tone_letter}
 use Rattle.ji.specs.declared.tone.Tone.{Tone}
-use Rattle.ji.specs.declared.tone.Tone.TheVariants.{None, T1, T4}
-use Rattle.ji.specs.declared.lomaji.khin.Khin.TheVariants.{No}
+use Rattle.ji.specs.declared.tone.Tone.TheVariants.{T1, T4}
 use Rattle.ji.specs.Lomaji.Keys.{respell}
 use Rattle.ji.proofs.Bools.{either, and_yes, and_no, and_true, and_false, and_left, and_right, or_no}
 use Rattle.ji.proofs.unicode.Bytes.{bytes_one, encode_nil, encode_cons, encode_append, last_skip, front_bytes}
@@ -29,8 +28,7 @@ use Rattle.ji.proofs.unicode.Ascii.{ascii_at}
 use Rattle.ji.proofs.lomaji.strip.Ascii.{ascii_stripped, ascii_tone}
 use Rattle.ji.proofs.lomaji.tone_letter.Marks.{letter_stripped}
 use Rattle.ji.proofs.text.Laws.{drop_next, replace_nil, replace_hit, replace_miss, replace_short, replace_points, points_first, points_second, points_other}
-use Rattle.khiin.specs.Syllable.{compose}
-use Rattle.khiin.specs.Converter.{key_to_tone, tone_to_key, ends_with, repeats_tone, opens_nasal, opens_dot, opens_o, opens_u, e_like, grown, nasal_signs, ends_in_stop, shared_or, toned, joined, bare, is_first, composed_step, step}
+use Rattle.khiin.specs.Converter.{key_to_tone, ends_with, repeats_tone, opens_nasal, opens_dot, opens_o, opens_u, e_like, nasal_signs, ends_in_stop, toned, joined, bare, is_first, composed_step, step}
 use Rattle.khiin.specs.Telex.{pick_edit, edit_by, edit_at, edit_of, composed_of, edited, step_of}
 use Rattle.khiin.specs.declared.converter.ToneKeys.{ToneKeys}
 use Rattle.khiin.specs.declared.converter.Edit.{Edit}

@@ -1,15 +1,14 @@
 -- The neutral-tone mark: both marks have two bytes, and a text without its mark is no longer than the text.
-use mathlib.Core.Path.{◌≡◌, refl, sym, ap, ◌∙◌}
+use mathlib.Core.Path.{◌≡◌, refl, sym, ◌∙◌}
 use mathlib.Core.Bool.{Bool, true, false, ◌||◌}
-use mathlib.Core.List.{List, [], ◌∷◌}
+use mathlib.Core.List.{List}
 use Prim.Native.Nat.{ℕ, ◌-◌, ◌≤◌}
 use native.Mathlib.Omega.{arith}
 use lib.ListN.{length, take, drop, length-drop}
 use Rattle.ji.proofs.Parts.{part_is}
 use Rattle.ji.specs.Text.{points, begins}
 use Rattle.ji.specs.Utf8.{bytes_of, encode, bytes}
-use Rattle.ji.specs.Lomaji.Khin.{pick_khin, after_mark, after_khin, khin_of, without_khin, khin_in}
-use Rattle.ji.specs.declared.lomaji.khin.Khin.TheVariants.{No, Yes}
+use Rattle.ji.specs.Lomaji.Khin.{after_mark, after_khin, khin_of, without_khin, khin_in}
 use Rattle.ji.proofs.text.Laws.{begins_length}
 use Rattle.ji.proofs.utf8.OneToOne.{begins_bytes, drop_bytes}
 use Rattle.ji.proofs.Bools.{false_true, either, or_yes, or_no, text_yes, text_no}

@@ -5,7 +5,7 @@ use mathlib.Core.List.{List, [], ◌∷◌, map}
 use Prim.Native.Nat.{ℕ, ◌+◌, ◌-◌, ◌≤◌, ◌<◌}
 use native.Mathlib.Omega.{arith}
 use native.Mathlib.Numerals.{add-one}
-use lib.Dec.{eqb, leb}
+use lib.Dec.{eqb}
 use native.Mathlib.Decide.{dec_lt}
 use borrow.Author.Tests.{ne_eqb, eqb-false, lt-ltb, le-ltb}
 use lib.ListN.{length, take, drop, get_or, length-drop, drop_of_length-le}
@@ -21,18 +21,16 @@ use Rattle.ji.specs.Utf8.{bytes_of, decode, encode}
 use Rattle.ji.specs.Tone.{pick_tone, is_tone, tone_number}
 use Rattle.ji.specs.Unicode.{spread}
 use Rattle.ji.specs.Nfd.{order, nfd}
-use Rattle.ji.specs.Reply.{Reply, refused, answered, pick_reply, placed, text_reply, Checked, good, bad, check_points, check_text}
+use Rattle.ji.specs.Reply.{refused, placed, Checked, good, bad, check_points, check_text}
 use Rattle.ji.specs.declared.reply.Refusal.{Refusal}
-use Rattle.ji.specs.declared.reply.Refusal.TheVariants.{NoRoom}
-use Rattle.ji.specs.declared.unicode.ByteLen.{ByteLen}
-use Rattle.ji.specs.Lomaji.Strip.{tone_marks, tone_in, mark_in, mark_tone, is_tone_mark, without_marks, dropped_marks, last_tone, ends_in, ends_in_any, stop_endings, unmarked_tone, tone_or, stripped, stripped_reply, strip_of, strip_call, strip_reply}
+use Rattle.ji.specs.Lomaji.Strip.{tone_marks, tone_in, mark_in, mark_tone, is_tone_mark, without_marks, dropped_marks, last_tone, ends_in, ends_in_any, stop_endings, unmarked_tone, tone_or, stripped, stripped_reply, strip_of, strip_call}
 use Rattle.ji.specs.declared.tone.Tone.{Tone}
 use Rattle.ji.specs.declared.tone.Tone.TheVariants.{None}
-use Rattle.std.specs.Prelude.{Ok, Some, None as None'}
+use Rattle.std.specs.Prelude.{Some, None as None'}
 use Rattle.std.specs.List.{slice_get}
 use Rattle.std.proofs.lemmas.Option.{slice_get-get_or, get_or_from_slice_get}
 use Rattle.ji.proofs.Bools.{either, false_true, or_yes, or_no, or_false, text_yes, text_no, number_yes, number_no, within_yes, within_below, within_above}
-use Rattle.ji.proofs.Replies.{refusal_some, check_within_law}
+use Rattle.ji.proofs.Replies.{check_within_law}
 
 -- ── marks
 abbrev Toned : List (ℕ × Tone) → Type 0

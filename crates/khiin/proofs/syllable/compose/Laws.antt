@@ -1,5 +1,5 @@
 -- Laws of the rules by which a body is spelled, of the front of a buffer, and of the call.
-use mathlib.Core.Path.{◌≡◌, refl, sym, ap, ap₂, ◌∙◌, subst}
+use mathlib.Core.Path.{◌≡◌, refl, sym, ap, ap₂, ◌∙◌}
 use mathlib.Core.Bool.{Bool, true, false, not, ◌&&◌, ◌||◌}
 use mathlib.Core.List.{List, [], ◌∷◌, ◌++◌, append-nil}
 use Prim.Native.Nat.{ℕ, suc, ◌+◌, ◌-◌, ◌*◌, ◌≤◌, ◌<◌, suc-le-suc}
@@ -7,8 +7,8 @@ use native.Mathlib.Omega.{arith}
 use borrow.Author.Tests.{eq-eqb, ne_eqb, eqb-true, eqb-false}
 use lib.Dec.{ltb, eqb}
 use borrow.Rule.Slice.PartMut.{put_mid, mid_of}
-use lib.ListN.{length, take, drop, get_or, set, length-append, length-take, length-drop, drop_of_length-le}
-use lib.Seq.{length-take-le, take-length, take-append-le, take-append-add, take-take, take-add, get_or-drop, drop-drop, drop_at, set_at}
+use lib.ListN.{length, take, drop, get_or, set, length-drop, drop_of_length-le}
+use lib.Seq.{length-take-le, take-length, take-take, take-add, get_or-drop, drop-drop, drop_at, set_at}
 use Rattle.std.specs.List.{starts_with}
 use Rattle.ji.specs.Unicode.{unicode16, pick_text, listed}
 use Rattle.ji.specs.Text.{points, marked, point, lower, begins, replace_all, last}
@@ -16,11 +16,11 @@ use Rattle.ji.specs.Written.{Written}
 use Rattle.ji.specs.Lomaji.Keys.{respell}
 use Rattle.ji.specs.declared.tone.Tone.{Tone}
 use Rattle.ji.specs.declared.lomaji.khin.Khin.{Khin}
-use Rattle.ji.proofs.Bools.{either, false_true, and_no, and_true, and_false, and_left, and_right, or_yes, or_no, text_yes, text_no}
+use Rattle.ji.proofs.Bools.{either, false_true, and_no, and_false, and_left, and_right, or_yes, or_no, text_yes, text_no}
 use Rattle.ji.proofs.Writing.{written_length, written_take, written_drop, stores_2}
 use Rattle.ji.proofs.Underway.{Underway, underway_start, underway_one, underway_run, underway_end}
 use Rattle.ji.proofs.text.Laws.{drop_next, begins_split, replace_nil, replace_hit, replace_miss, replace_point, replace_other, replace_growth, replace_induction}
-use Rattle.khiin.specs.Syllable.{nasal_rules, o_rules, is_nasal_end, ends_nasal, nasalised, moved, spelled, khin_text, mark_of, composed_with, compose}
+use Rattle.khiin.specs.Syllable.{o_rules, is_nasal_end, ends_nasal, nasalised, moved, spelled, khin_text, mark_of, composed_with, compose}
 use Rattle.khiin.specs.Compose.{Front, is_pair, begins_any, takes_dot, settled_body, inserted}
 
 -- the method tells what the definition does

@@ -4,15 +4,13 @@ use mathlib.Core.Bool.{true}
 use mathlib.Core.List.{List, [], ◌∷◌, ◌++◌}
 use mathlib.Core.Logic.{◌⊎◌, inl, inr}
 use mathlib.Core.Option.{none, some}
-use Prim.Native.Nat.{ℕ, zero, suc, ◌+◌, ◌≤◌, ◌<◌}
+use Prim.Native.Nat.{ℕ, zero, suc, ◌+◌, ◌<◌}
 use native.Mathlib.Numerals.{add-one}
-use lib.ListN.{length, take, drop, get_or, drop_of_length-le}
+use lib.ListN.{length, take, drop, get_or}
 use lib.Seq.{split_at, take-suc, append_snoc}
 use Rattle.ji.specs.Unicode.{unicode16, composite}
-use Rattle.ji.proofs.Bools.{and_yes}
-use Rattle.ji.proofs.text.Laws.{drop_next}
 use Rattle.khiin.specs.Syllable.{encoded}
-use Rattle.khiin.specs.Compose.{stays_behind, settled_from}
+use Rattle.khiin.specs.Compose.{settled_from}
 use Rattle.khiin.proofs.syllable.marking.Settled.{IsMark, Fits, encoded_one, encoded_none}
 
 -- ── the walk that tells whether a text is settled

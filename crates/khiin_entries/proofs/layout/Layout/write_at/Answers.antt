@@ -1,5 +1,5 @@
 -- `Layout::write_at` meets its contract: the pieces go in front of each other, from the last part to the first.
-use Rattle.std.proofs.Common.{◌≡◌, ℕ, ◌+◌, ◌-◌, ◌≤◌, ◌<◌, List, [], length, take, drop, get_or, refl, sym, ap, ap₂, ◌∙◌, arith}
+use Rattle.std.proofs.Common.{◌≡◌, ℕ, ◌+◌, ◌-◌, ◌≤◌, ◌<◌, List, [], length, take, drop, get_or, sym, ap, ap₂, ◌∙◌, arith}
 use Rattle.std.proofs.Math.Seq.{paste}
 use native.Mathlib.Nat.{add-sub_cancel_left}
 use Rattle.khiin_entries.specs.declared.layout.Layout.{Layout}
