@@ -14,7 +14,8 @@ pub(crate) struct Sequence {
     pub point: u32,
 }
 
-// The byte at `i`, and 0 past the end, which is what the definitions read there: 0 is no later byte of a sequence.
+// The byte at `i`, and 0 past the end: 0 is no later byte of a sequence, so that a text that ends early is no case of its
+// own in the functions below and in their proofs, as it would be with patterns of the slice.
 fn byte_at(s: &[u8], i: usize) -> u32
     ensures { (result ≡ get_or s.now i 0) × (result ≤ 255) }
 {
@@ -41,8 +42,7 @@ fn is_second(a: u32, b: u32) -> bool
     }
 }
 
-// The sequence of two bytes that `s` begins with. In the three of these a byte past the end reads as 0, as in Table
-// 3-7's definition, so that no pattern of the slice, for which a text that ends early is a case of its own, is plainer.
+// The sequence of two bytes that `s` begins with. One function for these three would be a case for each row of Table 3-7.
 fn read_two(s: &[u8]) -> Option<Sequence>
     requires { (0 < length s.now) × (0xC2 ≤ get_or s.now 0 0) × (get_or s.now 0 0 ≤ 0xDF) }
     ensures { ReadOf s.now result }

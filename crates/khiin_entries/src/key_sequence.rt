@@ -137,6 +137,8 @@ fn lay_part(part: &[u8], kind: Kind, forms: &mut [u8], at: usize) -> Row
     }
 }
 
+// The forms of a part. `single` is the same for all parts and asked at each, as the definition of a row takes it: two loops would differ in this alone. The
+// four that travel together make a row, and a struct of them would be made and taken apart at once.
 #[tactic(auto, unfolding(ji::specs::Reply::check_text, crate::specs::Choices::points_of))]
 fn lay_row(part: &[u8], single: bool, kind: Kind, forms: &mut [u8], at: usize) -> Row
     requires { Room part.now forms.old at }

@@ -27,7 +27,7 @@ pub struct Header {
     pub count: u64,
 }
 
-// The number that two bytes are, the low one first.
+// The number that two bytes are, the low one first. A caller names each byte: a part of the header becomes an array only by a conversion that may fail.
 fn pair(bytes: [u8; 2]) -> usize
     ensures { result ≡ get_or bytes 0 0 + 256 * get_or bytes 1 0 }
 {

@@ -1,5 +1,6 @@
-// The numbers that a caller passes, as the libraries have them. A call asks of all its numbers at once whether document 01 names them, and turns them
-// then. These functions answer for every number, and are public: a `TryFrom` beside them would be each table twice, with an error that never comes.
+// The numbers that a caller passes, as the libraries have them. A call asks of all its numbers at once whether document 01 names them, since the refusal is
+// one, and turns them then. A `TryFrom` would stand in ji and khiin, whose enums these are, and ask of each number by itself; these functions answer for
+// every number, and are public.
 ghost use Rattle.std.specs.Prelude.{◌≡◌};
 ghost use Rattle.robinflint.specs.Arguments.{tone_of, khin_of, kind_of, mode_of, keys_of};
 

@@ -30,7 +30,8 @@ pub fn rf_strip(text: &[u8], out: &mut [u8]) -> Reply
     to_reply(strip::strip_tone_diacritic(text, out))
 }
 
-// Where the tone letter of the text stands, in bytes: length 1 and the position, or length 0. Refuses with 2, 3, 4.
+// Where the tone letter of the text stands, in bytes: length 1 and the position, or length 0. Refuses with 2, 3, 4. It takes no buffer, of which the answers
+// of `to_reply` speak.
 #[inline(always)]
 pub fn rf_tone_letter(text: &[u8]) -> Reply
     ensures { reply_of result [] ≡ tone_letter_call unicode16 text.now }

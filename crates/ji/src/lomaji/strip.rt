@@ -113,7 +113,8 @@ fn tone_of(last: Tone, s: &[u8]) -> Tone
     }
 }
 
-// Writes the stripped text `s` to `out`, and answers its length and its tone.
+// Writes the stripped text `s` to `out`, and answers its length and its tone. `place_bytes` does so of bytes: one function for both would take the answer
+// of the writing and the text's bytes once more, and a law that joins them.
 fn place(s: &[u16], last: Tone, out: &mut [u8]) -> Result<StripResult, Refusal>
     ensures { strip_reply result out.new ≡ placed (tone_number (tone_or last (unmarked_tone (encode s.now)))) (encode s.now) out.old }
 {
@@ -163,8 +164,8 @@ fn place_bytes(s: &[u8], last: Tone, out: &mut [u8]) -> Result<StripResult, Refu
     Ok(StripResult { len, tone })
 }
 
-// Strips a text in one walk into a buffer of `N` bytes, or else step by step. Stripping makes a text longer by half at most, so that the walk always
-// has room in a buffer that has half as much again.
+// Strips a text in one walk into a buffer of `N` bytes, or else step by step. A text of syllables has room there. Stripping may make a text two and a half
+// times as long: where the buffer might not do, the walk gives up.
 fn strip_with<const N: usize>(text: &[u8], out: &mut [u8]) -> Result<StripResult, Refusal>
     requires { (length text.now ≤ 256) × (length text.now ≤ N) × (N ≤ 65536) }
     ensures { strip_reply result out.new ≡ strip_call unicode16 text.now out.old }

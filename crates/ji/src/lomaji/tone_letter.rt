@@ -66,7 +66,7 @@ const PATTERNS: usize = 9;
 // The letter that each pattern begins with.
 const FIRST: [u16; PATTERNS] = [O, O, A, E, U, I, N, N, M];
 
-// The number of the letter at `i` with its case ignored, and 0 past the end, as the definition reads it: no pattern has that.
+// The number of the letter at `i` with its case ignored, and 0 past the end: no pattern has that, and an Option would be taken apart at each use.
 #[tactic(auto, unfolding(crate::specs::Text::lower))]
 fn letter_at<L: Letter>(s: &[L], i: usize) -> u16
     ensures { result ≡ lower (get_or (map L.number s.now) i 0) }
@@ -93,7 +93,8 @@ fn is_final(x: u16) -> bool
     matches!(x, P | T | K | H | M | N | I)
 }
 
-// Whether at `at` stands what follows the o of the first pattern.
+// Whether at `at` stands what follows the o of the first pattern. That a text is shorter than 2^63, which holds of every slice, is asked here and where it is
+// called, for the place behind `at`.
 fn follows_o<L: Letter>(s: &[L], at: usize) -> bool
     requires { (at ≤ length s.now) × (length s.now < 2 ^ 63) }
     ensures { result ≡ matches ("ae" ∷ "ptkhmni" ∷ []) (drop at (map L.number s.now)) }
@@ -101,7 +102,8 @@ fn follows_o<L: Letter>(s: &[L], at: usize) -> bool
     is_a_or_e(letter_at(s, at)) && is_final(letter_at(s, at + 1))
 }
 
-// Whether `x` is the small letter `small` with its case ignored.
+// Whether `x` is the small letter `small` with its case ignored. By two comparisons, since this is asked of every letter for each of nine patterns:
+// `text::lower` tests a range first.
 #[tactic(auto, unfolding(crate::specs::Text::lower))]
 fn is_letter(x: u16, small: u16) -> bool
     requires { (0x61 ≤ small) × (small ≤ 0x7A) }

@@ -24,7 +24,7 @@ use ji::tone::Tone;
 use ji::unicode::ByteLen;
 use ji::{reply, unicode};
 
-// The code point at `i`, and 0 past the end, which no rule has.
+// The code point at `i`, and 0 past the end, as the definition of a pair reads it; no rule has 0.
 fn at(s: &[u16], i: usize) -> u16
     ensures { result ≡ get_or s.now i 0 }
 {

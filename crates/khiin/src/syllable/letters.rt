@@ -42,7 +42,7 @@ pub(crate) const T: u16 = b't' as u16;
 
 pub(crate) const U: u16 = b'u' as u16;
 
-// The signs of a nasal vowel, small and capital. No code point of the table below the first of them is one.
+// The signs of a nasal vowel, small and capital. No code point below the capital one, which is the lower of the two, is one.
 pub(crate) const SMALL_SIGN: u16 = 0x207F;
 
 pub(crate) const CAPITAL_SIGN: u16 = 0x1D3A;

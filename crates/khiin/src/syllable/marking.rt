@@ -36,7 +36,7 @@ pub(crate) fn mark_of(tone: Tone) -> Option<u16>
 }
 
 // What a letter and a tone mark behind it make, as far as it is known here: one code point, which has two bytes in UTF-8; or they stay apart.
-// Unknown is no None: an Option would wrap each line of the seven tables in Some, and `join` is matched by all three.
+// Unknown is no None: an Option would wrap each line of the six tables in Some.
 #[derive(Clone, Copy, PartialEq, Eq)]
 pub(crate) enum Joined {
     Composite(u16),
@@ -44,7 +44,8 @@ pub(crate) enum Joined {
     Unknown,
 }
 
-// A letter with a tone mark behind it, a function for each mark: these are seven tables, and a dense `match` of one number is the quickest lookup.
+// A letter with a tone mark behind it, a function for each mark: these are six tables, and `line`. A dense `match` of one number is compiled into a table; one
+// of both numbers would be no plainer, and a chain of jumps.
 #[tactic(auto, unfolding(ji::specs::Unicode::unicode16, ji::specs::Unicode::mappings16, ji::specs::Unicode::classes16, ji::specs::Unicode::exclusions16, ji::specs::Unicode::same, ji::specs::Unicode::listed, ji::specs::Unicode::mapping_in, ji::specs::Unicode::class_in, ji::specs::Unicode::decomposition, ji::specs::Unicode::combining_class, ji::specs::Unicode::is_composite, ji::specs::Unicode::composite_in, ji::specs::Unicode::composite))]
 fn grave(x: u16) -> Joined
     ensures { JoinedAs x 0x0300 result }

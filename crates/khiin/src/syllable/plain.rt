@@ -15,7 +15,7 @@ use ji::reply::Refusal;
 use ji::text::lower;
 use ji::unicode::ByteLen;
 
-// Whether `s` ends in nn, case ignored, behind something. These are bytes, and `ends_nasal` reads code points.
+// Whether `s` ends in nn, case ignored, behind something. It asks less than `ends_nasal`, which looks at the letter before too and reads code points.
 fn ends_in_nn(s: &[u8]) -> bool
     ensures { result ≡ false → ends_nasal s.now ≡ false }
 {
@@ -23,14 +23,14 @@ fn ends_in_nn(s: &[u8]) -> bool
     2 < n && lower(u16::from(s[n - 1])) == N && lower(u16::from(s[n - 2])) == N
 }
 
-// Whether `before` and `x` are a pair of vowels that is replaced. These are bytes, and `is_pair` reads code points.
+// Whether `before` and `x` are a pair of vowels that is replaced. It is one line over the two tests of code points, which `is_pair` asks too.
 fn are_pair(before: u8, x: u8) -> bool
     ensures { result ≡ (listed (points_of "oOeE") before && listed (points_of "oOuU") x) }
 {
     is_second(u16::from(x)) && is_first(u16::from(before))
 }
 
-// Whether `s` is ASCII, and no rule changes it. `windows(2)` would leave out the first byte, which has none before it.
+// Whether `s` is ASCII, and no rule changes it. One walk asks both: with `is_ascii` and `windows(2)` there would be two.
 pub(crate) fn is_plain(s: &[u8]) -> bool
     ensures { result ≡ true → Plain s.now }
 {
