@@ -150,7 +150,8 @@ fn shrink_pair(s: &mut [u16], a: u16, b: u16, c: u16) -> usize
 }
 
 // Takes each `c` out, in place, and returns how many code points are left: the places are counted, since those that are read and written are of one
-// slice. `shrink_pair` reads two code points and writes one: one function for both would have a case for each at every step.
+// slice. One function for this and `shrink_pair`, of a pattern and what takes its place, would make two arrays at each call and copy a slice of one code
+// point or none at each turn.
 fn take_out(s: &mut [u16], c: u16) -> usize
     ensures { Written s.old s.new result (replace_all (c ∷ []) [] s.old) }
 {
