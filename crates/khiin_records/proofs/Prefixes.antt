@@ -9,11 +9,9 @@ use native.Mathlib.Omega.{arith}
 use borrow.Author.Tests.{eq-eqb, ne_eqb, eqb-true, eqb-false}
 use lib.Dec.{leb, eqb}
 use lib.ListN.{length, take, drop, get_or, drop_of_length-le}
-use lib.Seq.{paste}
 use Rattle.ji.specs.Unicode.{Table, pick_number, same, listed}
 use Rattle.ji.specs.Text.{point, begins, within, lower, all_ascii}
 use Rattle.ji.specs.Utf8.{encode}
-use Rattle.ji.specs.Written.{Written}
 use Rattle.ji.specs.Tone.{tone_number, is_tone}
 use Rattle.ji.specs.Reply.{refused, Checked, good, bad, check_text}
 use Rattle.ji.specs.Lomaji.Dot.{dot_in}
@@ -23,7 +21,6 @@ use Rattle.ji.specs.declared.reply.Refusal.{Refusal}
 use Rattle.ji.specs.declared.tone.Tone.{Tone}
 use Rattle.ji.specs.declared.lomaji.khin.Khin.{Khin}
 use Rattle.ji.proofs.Bools.{either, false_true, and_no, and_yes, and_true, number_yes, number_no, text_yes, within_is}
-use Rattle.ji.proofs.Writing.{written_run}
 use Rattle.ji.proofs.text.Laws.{drop_next}
 use Rattle.ji.proofs.lomaji.dot.Laws.{dot_listed}
 use Rattle.ji.proofs.unicode.Ascii.{ascii_low, ascii_rest}
@@ -36,13 +33,8 @@ use Rattle.khiin_records.specs.Prefixes.{NearestPrefix}
 use Rattle.khiin_records.specs.declared.ending.Ending.{Ending}
 use Rattle.khiin_records.proofs.RawBytes.{from_copy, body_is}
 use Rattle.khiin_records.proofs.Records.{candidates_two, candidates_one}
-use Rattle.khiin_records.proofs.Candidates.{raw_bytes, keys_few}
+use Rattle.khiin_records.proofs.Candidates.{raw_bytes}
 use Rattle.std.specs.List.{prefix_len, zip}
-
--- ── a raw input that was written: the body, and the keys behind it
-pub raw_written : (t : Tone) (k : Khin) (before mid after : List ℕ) (n len : ℕ) (body : List ℕ) → Written before mid n body → len ≡ n + length (tone_digit t ++ khin_key k)
-    → after ≡ paste mid n (tone_digit t ++ khin_key k) (length (tone_digit t ++ khin_key k)) → n + 2 ≤ length before → Written before after len (body ++ (tone_digit t ++ khin_key k))
-raw_written t k before mid after n len body w size is room = rw (size, is) (written_run w (tone_digit t ++ khin_key k) (omega (arith, keys_few t k)))
 
 -- ── the library's change of case
 pub shared_zip : (keys s : List ℕ) → shared_prefix keys s ≡ prefix_len (λ (p : ℕ × ℕ). eqb (lower p.0) (lower p.1)) (zip keys s)

@@ -49,21 +49,6 @@ impl Ending {
         }
     }
 
-    // The same in code points. One function for both would take a conversion of each key, and a law of it, and be longer than the two.
-    pub(crate) fn put_points(self, out: &mut [u16], at: usize) -> usize
-        requires { at + 2 ≤ length out.old }
-        ensures { (result ≡ at + length (keys_of self)) × (out.new ≡ paste out.old at (keys_of self) (length (keys_of self))) }
-    {
-        out[at] = u16::from(self.digit());
-        match self.khin {
-            Khin::No => at + 1,
-            Khin::Yes => {
-                out[at + 1] = u16::from(b'0');
-                at + 2
-            }
-        }
-    }
-
     // The record of a raw input of `len` bytes that ends so, one of `count`.
     pub(crate) fn record(self, body: usize, len: usize, count: u64) -> Record
         ensures { result ≡ record { len = record { 0 = len }; count = count; body = record { 0 = body }; tone = self.tone; khin = self.khin } }

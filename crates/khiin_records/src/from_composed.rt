@@ -1,12 +1,12 @@
 // `from_composed`: the records that a syllable may be typed as.
-ghost use Rattle.std.specs.Prelude.{◌≡◌, true, ◌&&◌, List, [], ◌∷◌, ℕ, ◌+◌, ◌*◌, ◌≤◌, ◌<◌, length, drop};
-ghost use Rattle.ji.specs.Unicode.{unicode16, members};
+ghost use Rattle.std.specs.Prelude.{◌≡◌, ◌&&◌, List, [], ◌∷◌, ℕ, ◌+◌, ◌*◌, ◌≤◌, ◌<◌, length, drop};
+ghost use Rattle.ji.specs.Unicode.{unicode16};
 ghost use Rattle.ji.specs.Utf8.{encode};
-ghost use Rattle.ji.specs.Text.{begins, replace_all};
+ghost use Rattle.ji.specs.Text.{begins};
 ghost use Rattle.ji.specs.Written.{Written};
 ghost use Rattle.ji.specs.Lomaji.Dot.{dot_in};
-ghost use Rattle.ji.specs.Lomaji.Keys.{respell};
-ghost use Rattle.khiin_records.specs.Syllable.{raw, default, below_rules, sign_rules, candidate, candidates_of, placed_record, candidate_in, candidate_call, record_reply};
+ghost use Rattle.khiin_records.specs.Syllable.{default, candidates_of, candidate_in, candidate_call, record_reply};
+ghost use Rattle.khiin_records.specs.Records.{Roomy};
 ghost use Rattle.khiin_records.specs.RawBytes.{takes_below, first_of, second_of, nasal, below, body_of, count_of, vowel_at, byte_before, Walking};
 
 use crate::Record;
@@ -14,141 +14,9 @@ use crate::ending::Ending;
 use crate::stripped::Stripped;
 use ji::lomaji::dot::holds_dot;
 use ji::lomaji::khin::Khin;
-use ji::reply::Refusal;
-use ji::text::replace_pair;
+use ji::reply::{self, Refusal};
 use ji::tone::Tone;
 use ji::unicode::ByteLen;
-use ji::{reply, unicode};
-
-// Writes a letter with U+0324 as the two letters that stand for it.
-fn spell_letter(s: &mut [u16], letter: u8)
-    ensures { s.new ≡ replace_all (letter ∷ 0x324 ∷ []) (first_of letter ∷ second_of letter ∷ []) s.old }
-{
-    replace_pair(
-        s,
-        u16::from(letter),
-        0x324,
-        u16::from(first_of(letter)),
-        u16::from(second_of(letter)),
-    );
-}
-
-// Writes u, U, o and O with U+0324 as eu, Eu, eo and Eo. Few texts hold U+0324. Four calls as there are four rules: a loop would need an invariant
-// over the rules done.
-fn spell_below(s: &mut [u16])
-    ensures { s.new ≡ respell below_rules s.old }
-{
-    if s.contains(&0x324) {
-        spell_letter(s, b'u');
-        spell_letter(s, b'U');
-        spell_letter(s, b'o');
-        spell_letter(s, b'O');
-    }
-}
-
-// Writes `s` with `vowel` for U+0358 and nn for U+207F to the front of `out`, and returns its length.
-fn spell_signs(s: &[u16], vowel: u8, out: &mut [u16]) -> usize
-    requires { 2 * length s.now ≤ length out.old }
-    ensures { Written out.old out.new result (respell (sign_rules (vowel ∷ [])) s.now) }
-{
-    let mut n: usize = 0;
-    for &c in s {
-        match c {
-            0x358 => {
-                out[n] = u16::from(vowel);
-                n += 1;
-            }
-            0x207F => {
-                out[n] = u16::from(b'n');
-                out[n + 1] = u16::from(b'n');
-                n += 2;
-            }
-            _ => {
-                out[n] = c;
-                n += 1;
-            }
-        }
-    }
-    n
-}
-
-// Writes the raw input of the candidate of `s`, stripped and behind khin, that has `vowel` for U+0358, to the front of `letters`, and returns its
-// length. `s` is used up. `letters` has room for two letters for each code point, and for the ending: three contracts say so, since a struct of the two
-// buffers would be made once only, in `candidate_of`, and be longer.
-fn write_raw(s: &mut [u16], vowel: u8, ending: Ending, letters: &mut [u16]) -> usize
-    requires { 2 * length s.old + 2 ≤ length letters.old }
-    ensures { Written letters.old letters.new result (raw (candidate ending.tone ending.khin s.old (vowel ∷ []))) }
-{
-    spell_below(s);
-    let n = spell_signs(s, vowel, letters);
-    ending.put_points(letters, n)
-}
-
-// Writes that candidate, one of `count`, to `out`. `s` and `letters` are used up.
-fn place_candidate(
-    s: &mut [u16],
-    letters: &mut [u16],
-    vowel: u8,
-    ending: Ending,
-    count: u64,
-    out: &mut [u8],
-) -> Result<Record, Refusal>
-    requires { 2 * length s.old + 2 ≤ length letters.old }
-    ensures { record_reply result out.new ≡ placed_record count (candidate ending.tone ending.khin s.old (vowel ∷ [])) out.old }
-{
-    let n = write_raw(s, vowel, ending, letters);
-    let len = reply::place(&letters[..n], out)?;
-    let size = len.0;
-    Ok(ending.record(size - ending.len(), size, count))
-}
-
-// Writes the candidate at the position: the one with u, or, where U+0358 occurs, the second one with o.
-fn choose(
-    s: &mut [u16],
-    letters: &mut [u16],
-    ending: Ending,
-    position: u64,
-    out: &mut [u8],
-) -> Result<Record, Refusal>
-    requires { 2 * length s.old + 2 ≤ length letters.old }
-    ensures { record_reply result out.new ≡ candidate_in (candidates_of ending.tone ending.khin s.old) position out.old }
-{
-    let dotted = s.contains(&0x358);
-    let count = if dotted { 2 } else { 1 };
-    match position {
-        0 => place_candidate(s, letters, b'u', ending, count, out),
-        1 if dotted => place_candidate(s, letters, b'o', ending, count, out),
-        _ => Err(Refusal::Position),
-    }
-}
-
-// The plain way, for any buffer: the candidate at the position of a stripped text, by its code points.
-fn candidate_of(
-    text: Stripped,
-    points: &mut [u16],
-    letters: &mut [u16],
-    position: u64,
-    out: &mut [u8],
-) -> Result<Record, Refusal>
-    requires { (length text.rest.now ≤ length points.old) × (2 * length points.old + 2 ≤ length letters.old) }
-    ensures { (u : List ℕ) → members unicode16 u ≡ true → text.entry.rest.now ≡ encode u
-        → record_reply result out.new ≡ candidate_in (candidates_of text.entry.ending.tone text.entry.ending.khin u) position out.old }
-{
-    let len = unicode::code_points(text.rest, points)?;
-    choose(&mut points[..len.0], letters, text.ending, position, out)
-}
-
-// The same with buffers for any text. They stand here and not in the callers, so that the quick way does not make room for them.
-#[inline(never)]
-fn candidate_points(text: Stripped, position: u64, out: &mut [u8]) -> Result<Record, Refusal>
-    requires { length text.rest.now ≤ 640 }
-    ensures { (u : List ℕ) → members unicode16 u ≡ true → text.entry.rest.now ≡ encode u
-        → record_reply result out.new ≡ candidate_in (candidates_of text.entry.ending.tone text.entry.ending.khin u) position out.old }
-{
-    let mut points = [0u16; 640];
-    let mut letters = [0u16; 1282];
-    candidate_of(text, &mut points, &mut letters, position, out)
-}
 
 // The one candidate of the empty text: the default.
 #[tactic(auto, unfolding(ji::specs::Utf8::encode))]
@@ -304,11 +172,12 @@ fn vowel_at(s: &[u8], position: u64) -> Option<u8>
     }
 }
 
-// The quick way, for a buffer with room to spare: the candidate at the position of a stripped text, by one walk over its bytes. One
-// `match` with both answers: two returns would send the record through memory.
+// Writes the candidate at the position of a stripped text, by one walk over its bytes, to a buffer with room for any. One `match` with both answers:
+// two returns would send the record through memory.
 fn write_candidate(text: Stripped, position: u64, out: &mut [u8]) -> Result<Record, Refusal>
     requires { length text.rest.now + 2 ≤ length out.old }
-    ensures { (u : List ℕ) → text.entry.rest.now ≡ encode u → record_reply result out.new ≡ candidate_in (candidates_of text.entry.ending.tone text.entry.ending.khin u) position out.old }
+    ensures { Roomy (length out.old) result × ((u : List ℕ) → text.entry.rest.now ≡ encode u
+        → record_reply result out.new ≡ candidate_in (candidates_of text.entry.ending.tone text.entry.ending.khin u) position out.old) }
 {
     match vowel_at(text.rest, position) {
         Some(vowel) => {
@@ -323,6 +192,20 @@ fn write_candidate(text: Stripped, position: u64, out: &mut [u8]) -> Result<Reco
     }
 }
 
+// The same for a buffer that may have too little room: it is written to one of our own, and copied where it has. That one stands here and not in the
+// caller, so that the quick way does not make room for it.
+#[inline(never)]
+fn candidate_copied(text: Stripped, position: u64, out: &mut [u8]) -> Result<Record, Refusal>
+    requires { length text.rest.now ≤ 640 }
+    ensures { (u : List ℕ) → text.entry.rest.now ≡ encode u
+        → record_reply result out.new ≡ candidate_in (candidates_of text.entry.ending.tone text.entry.ending.khin u) position out.old }
+{
+    let mut raw = [0u8; 642];
+    let record = write_candidate(text, position, &mut raw)?;
+    reply::place_bytes(&raw[..record.len.0], out)?;
+    Ok(record)
+}
+
 // An answer of a slower way, taken apart and made again, so that the quickest way's answer need not go through memory to meet it.
 pub(crate) fn again(answer: Result<Record, Refusal>) -> Result<Record, Refusal>
     ensures { result ≡ answer }
@@ -333,18 +216,18 @@ pub(crate) fn again(answer: Result<Record, Refusal>) -> Result<Record, Refusal>
     }
 }
 
-// The candidate at the position of a stripped text: by the quick way where its raw input has room in any case, else by the plain one.
-// Written into its callers, so that the record of a short text need not go through memory.
+// The same for any buffer: where the raw input has room in any case, nothing is copied. Written into its callers, so that the record of a short text
+// need not go through memory.
 #[inline(always)]
 fn candidate_stripped(text: Stripped, position: u64, out: &mut [u8]) -> Result<Record, Refusal>
     requires { length text.rest.now ≤ 640 }
-    ensures { (u : List ℕ) → members unicode16 u ≡ true → text.entry.rest.now ≡ encode u
+    ensures { (u : List ℕ) → text.entry.rest.now ≡ encode u
         → record_reply result out.new ≡ candidate_in (candidates_of text.entry.ending.tone text.entry.ending.khin u) position out.old }
 {
     if text.rest.len() + 2 <= out.len() {
         write_candidate(text, position, out)
     } else {
-        again(candidate_points(text, position, out))
+        again(candidate_copied(text, position, out))
     }
 }
 
