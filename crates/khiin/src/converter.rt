@@ -328,7 +328,6 @@ impl Step {
     }
 
     // Composes the stripped text anew, which stands in the first `n` places of `points`. `raw` are the bytes of it and the key.
-    #[tactic(auto, unfolding(ji::specs::Utf8::encode, crate::specs::Telex::composed_of))]
     fn compose_step(
         self,
         raw: &[u8],

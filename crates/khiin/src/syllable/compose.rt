@@ -9,6 +9,7 @@ ghost use Rattle.ji.specs.Reply.{placed, text_reply, good, check_text};
 ghost use Rattle.ji.specs.Lomaji.Keys.{respell};
 ghost use Rattle.khiin.specs.Syllable.{vowel_rules, nasal_rules, o_rules, ends_nasal, nasalised, moved, spelled, khin_text, mark_of, composed_with, compose, compose_of, compose_call};
 ghost use Rattle.khiin.specs.Compose.{Front, is_pair, takes_dot, NoPairIn, NoNasalBefore, NoSignBefore, settled_body, SettledAs, DotAt, QuickAs};
+ghost use Rattle.khiin.specs.RawInput.{RawOf, one_raw};
 
 use crate::syllable::letters::{
     A, CAPITAL_E, CAPITAL_H, CAPITAL_N, CAPITAL_O, CAPITAL_SIGN, CAPITAL_U, DOT, DOTS, E, H,
@@ -366,19 +367,20 @@ fn write_whole(khin: Khin, s: &[u16], out: &mut [u16]) -> usize
     from + write_dotted(s, &mut out[from..])
 }
 
-// What a body is composed with: the raw input, which is the answer where there is no letter for the tone mark, the tone, and khin.
+// What a body is composed with: the bytes of the raw input, which is the answer where there is no letter for the tone mark, the tone, and khin.
 #[derive(Clone, Copy)]
 pub(crate) struct Composer<'a> {
     pub(crate) raw: &'a [u8],
     pub(crate) tone: Tone,
     pub(crate) khin: Khin,
+    ghost input: { RawOf raw.now } by { one_raw raw.now },
 }
 
 impl Composer<'_> {
     // Writes the text that `s`, as it is spelled, has with the mark of the tone; or the raw input, where there is no letter for it.
     fn place_plain(self, s: &[u8], out: &mut [u8]) -> Option<Result<ByteLen, Refusal>>
         requires { all_ascii s.now ≡ true }
-        ensures { (raw_input : List ℕ) → self.entry.raw.now ≡ encode raw_input → QuickAs result out.old out.new (placed 0 (encode (composed_with unicode16 raw_input s.now (mark_of self.entry.tone))) out.old) }
+        ensures { QuickAs result out.old out.new (placed 0 (encode (composed_with unicode16 self.entry.input.points s.now (mark_of self.entry.tone))) out.old) }
     {
         let Some(mark) = mark_of(self.tone) else {
             return Some(reply::place_bytes(s, out));
@@ -391,7 +393,7 @@ impl Composer<'_> {
 
     // Composes the body `s`, if it is plain and has no khin. None where it is not, and nothing is written.
     pub(crate) fn compose_plain(self, s: &[u8], out: &mut [u8]) -> Option<Result<ByteLen, Refusal>>
-        ensures { (IsSome result → all_ascii s.now ≡ true) × ((raw_input : List ℕ) → self.entry.raw.now ≡ encode raw_input → QuickAs result out.old out.new (placed 0 (encode (compose unicode16 raw_input s.now self.entry.tone self.entry.khin)) out.old)) }
+        ensures { (IsSome result → all_ascii s.now ≡ true) × QuickAs result out.old out.new (placed 0 (encode (compose unicode16 self.entry.input.points s.now self.entry.tone self.entry.khin)) out.old) }
     {
         match self.khin {
             Khin::No if is_plain(s) => self.place_plain(s, out),
@@ -404,7 +406,7 @@ impl Composer<'_> {
     #[tactic(auto, unfolding(ji::specs::Utf8::encode, crate::specs::Syllable::encoded, ji::specs::Lomaji::ToneLetter::tone_letter, crate::specs::Syllable::compose, crate::specs::Syllable::mark_of))]
     fn place_spelled(self, s: &mut [u16], n: usize, out: &mut [u8]) -> Result<ByteLen, Refusal>
         requires { (n < length s.old) × (n ≤ 802) }
-        ensures { (raw_input : List ℕ) → self.entry.raw.now ≡ encode raw_input → text_reply result out.new ≡ placed 0 (encode (composed_with unicode16 raw_input (take n s.old) (mark_of self.entry.tone))) out.old }
+        ensures { text_reply result out.new ≡ placed 0 (encode (composed_with unicode16 self.entry.input.points (take n s.old) (mark_of self.entry.tone))) out.old }
     {
         let Some(mark) = mark_of(self.tone) else {
             return place_unmarked(&s[..n], out);
@@ -418,7 +420,7 @@ impl Composer<'_> {
     // Writes the text of a body that is spelled but for the O rules, from a buffer with room for these and for khin.
     fn place_dotted(self, s: &[u16], out: &mut [u8]) -> Result<ByteLen, Refusal>
         requires { length s.now ≤ 400 }
-        ensures { (raw_input body : List ℕ) → self.entry.raw.now ≡ encode raw_input → settled_body body ≡ s.now → text_reply result out.new ≡ placed 0 (encode (compose unicode16 raw_input body self.entry.tone self.entry.khin)) out.old }
+        ensures { (body : List ℕ) → settled_body body ≡ s.now → text_reply result out.new ≡ placed 0 (encode (compose unicode16 self.entry.input.points body self.entry.tone self.entry.khin)) out.old }
     {
         let mut b = [0u16; 803];
         let n = write_whole(self.khin, s, &mut b);
@@ -433,7 +435,7 @@ impl Composer<'_> {
         out: &mut [u8],
     ) -> Result<ByteLen, Refusal>
         requires { (settled.len ≤ 400) × (settled.len + 1 < length s.old) × (settled.lone ≡ true → NoSignBefore (take settled.len s.old)) }
-        ensures { (raw_input body : List ℕ) → self.entry.raw.now ≡ encode raw_input → settled_body body ≡ take settled.len s.old → text_reply result out.new ≡ placed 0 (encode (compose unicode16 raw_input body self.entry.tone self.entry.khin)) out.old }
+        ensures { (body : List ℕ) → settled_body body ≡ take settled.len s.old → text_reply result out.new ≡ placed 0 (encode (compose unicode16 self.entry.input.points body self.entry.tone self.entry.khin)) out.old }
     {
         let n = settled.len;
         match self.khin {
@@ -454,7 +456,7 @@ impl Composer<'_> {
         out: &mut [u8],
     ) -> Result<ByteLen, Refusal>
         requires { (n ≤ 400) × (n + 1 < length s.old) }
-        ensures { (raw_input : List ℕ) → self.entry.raw.now ≡ encode raw_input → text_reply result out.new ≡ placed 0 (encode (compose unicode16 raw_input (take n s.old) self.entry.tone self.entry.khin)) out.old }
+        ensures { text_reply result out.new ≡ placed 0 (encode (compose unicode16 self.entry.input.points (take n s.old) self.entry.tone self.entry.khin)) out.old }
     {
         let settled = settle(&mut s[..n]);
         self.place_settled(s, settled, out)
@@ -469,7 +471,7 @@ impl Composer<'_> {
         out: &mut [u8],
     ) -> Result<ByteLen, Refusal>
         requires { (length body.now ≤ 256) × (length body.now ≤ length points.old) × (length body.now + 1 < length points.old) }
-        ensures { (raw_input : List ℕ) → self.entry.raw.now ≡ encode raw_input → text_reply result out.new ≡ compose_of unicode16 self.entry.tone self.entry.khin (good raw_input) (check_text unicode16 body.now) out.old }
+        ensures { text_reply result out.new ≡ compose_of unicode16 self.entry.tone self.entry.khin (good self.entry.input.points) (check_text unicode16 body.now) out.old }
     {
         let len = unicode::code_points(body, points)?;
         self.compose_points(points, len.0, out)
@@ -478,7 +480,7 @@ impl Composer<'_> {
     // The same in a buffer of `N` places: clearing a small one is quicker.
     fn compose_in<const N: usize>(self, body: &[u8], out: &mut [u8]) -> Result<ByteLen, Refusal>
         requires { (length body.now ≤ 256) × (length body.now + 1 < N) × (N ≤ 65536) }
-        ensures { (raw_input : List ℕ) → self.entry.raw.now ≡ encode raw_input → text_reply result out.new ≡ compose_of unicode16 self.entry.tone self.entry.khin (good raw_input) (check_text unicode16 body.now) out.old }
+        ensures { text_reply result out.new ≡ compose_of unicode16 self.entry.tone self.entry.khin (good self.entry.input.points) (check_text unicode16 body.now) out.old }
     {
         let mut points = [0u16; N];
         self.compose_body(body, &mut points, out)
@@ -488,7 +490,7 @@ impl Composer<'_> {
     #[tactic(auto, unfolding(ji::specs::Utf8::encode, crate::specs::Syllable::compose, ji::specs::Reply::check_text))]
     fn compose_any(self, body: &[u8], out: &mut [u8]) -> Result<ByteLen, Refusal>
         requires { length body.now ≤ 256 }
-        ensures { (raw_input : List ℕ) → self.entry.raw.now ≡ encode raw_input → text_reply result out.new ≡ compose_of unicode16 self.entry.tone self.entry.khin (good raw_input) (check_text unicode16 body.now) out.old }
+        ensures { text_reply result out.new ≡ compose_of unicode16 self.entry.tone self.entry.khin (good self.entry.input.points) (check_text unicode16 body.now) out.old }
     {
         if let Some(answer) = self.compose_plain(body, out) {
             return answer;

@@ -9,17 +9,18 @@ use lib.Seq.{length-take-le, take-take, take-set-le, take_all}
 use Rattle.ji.specs.Unicode.{unicode16}
 use Rattle.ji.specs.Utf8.{encode}
 use Rattle.ji.specs.Text.{all_ascii}
-use Rattle.ji.specs.Reply.{Reply, placed}
+use Rattle.ji.specs.Reply.{placed}
 use Rattle.ji.specs.declared.tone.Tone.{Tone}
 use Rattle.ji.specs.declared.lomaji.khin.Khin.TheVariants.{No}
 use Rattle.ji.proofs.Bools.{either, text_yes, text_no}
-use Rattle.ji.proofs.unicode.Bytes.{fewer}
+use Rattle.ji.proofs.unicode.Bytes.{encode_one_to_one, fewer}
 use Rattle.khiin.specs.Syllable.{compose}
 use Rattle.khiin.specs.Converter.{grown}
 use Rattle.khiin.specs.Telex.{composed_of}
 use Rattle.khiin.specs.declared.converter.ToneKeys.{ToneKeys}
 use Rattle.khiin.proofs.syllable.plain.Laws.{front_ascii}
 use Rattle.khiin.proofs.converter.Laws.{key_stored}
+use borrow.Author.Rules.{rules}
 use native.Mathlib.Omega.{arith}
 use Rattle.khiin.proofs.converter.Step.compose_step.Goals as goal
 
@@ -80,6 +81,15 @@ module _ (p : List ℕ) (n x key : ℕ) (same : x ≡ key) (h : n + 2 < length p
         ∙ ap (take c) (sym key_is)
         ∙ part_same c l
 
+    -- the same of any raw input with these bytes, and of the body as either way reads it
+    any_text : (points body : List ℕ) → raw ≡ encode points → (k : ToneKeys) (tone : Tone) (len c : ℕ) (o : Tone) → body ≡ take c stored → (key ≡ 0x20 → len ≡ n) → ((key ≡ 0x20 → ⊥) → len ≡ n + 1) → c ≤ length whole
+        → (grown key (take n whole) ≡ take len whole → composed_of unicode16 k key tone (take n whole) ≡ compose unicode16 (take n whole ++ (key ∷ [])) (take c whole) o No)
+        → compose unicode16 points body o No ≡ composed_of unicode16 k key tone (take n p)
+    any_text points body same_raw k tone len c o same_body f g l e =
+        ap (λ (b : List ℕ). compose unicode16 points b o No) same_body
+        ∙ ap (λ (s : List ℕ). compose unicode16 s (take c stored) o No) (encode_one_to_one points typed_text (sym same_raw ∙ is))
+        ∙ step_text k tone len c o f g l e
+
 pub slice_bounds-compose_plain-end : goal.slice_bounds-compose_plain-end
 slice_bounds-compose_plain-end c =
     let s = size c.args.points.now c.args.n c.from.result c.args.self.key c.from.ensures c.requires.1 in
@@ -89,9 +99,17 @@ slice_bounds-compose_plain-end c =
 pub returns-in-Some : goal.returns-in-Some
 returns-in-Some c =
     let a = c.args in
-    let here : List ℕ → Reply = λ l. placed 0 (encode l) a.out.now in
-    c.in-Some.ensures.1 _ c.requires.2
-    ∙ ap (λ (b : List ℕ). here (compose unicode16 (take a.n a.points.now ++ (a.self.key ∷ [])) b c.typed-body.result.tone No))
-    (body_same a.points.now a.n c.from.result a.self.key c.from.ensures c.requires.1 a.raw.now c.requires.2 c.typed-body.result.len c.typed-body.ensures.0 (c.in-Some.ensures.0 refl))
-    ∙ ap here
-    (step_text a.points.now a.n c.from.result a.self.key c.from.ensures c.requires.1 a.self.keys a.self.tone _ _ _ c.grown_len.ensures.0 c.grown_len.ensures.1 c.typed-body.ensures.0 c.typed-body.ensures.1)
+    let h = c.typed-body.ensures in
+    let same = body_same a.points.now a.n c.from.result a.self.key c.from.ensures c.requires.1 a.raw.now c.requires.2 c.typed-body.result.len h.0 (c.in-Some.ensures.0 refl) in
+    c.in-Some.ensures.1
+    ∙ ap (λ (l : List ℕ). placed 0 (encode l) a.out.now)
+    (any_text a.points.now a.n c.from.result a.self.key c.from.ensures c.requires.1 a.raw.now c.requires.2 _ _ (search rules) a.self.keys a.self.tone _ _ _ same c.grown_len.ensures.0 c.grown_len.ensures.1 h.0 h.1)
+
+pub returns : goal.returns
+returns c =
+    let a = c.args in
+    let h = c.typed-body.ensures in
+    c.compose_points.ensures
+    ∙ ap (placed 0 _) c.in_default.ensures.1
+    ∙ ap (λ (l : List ℕ). placed 0 (encode l) a.out.now)
+    (any_text a.points.now a.n c.from.result a.self.key c.from.ensures c.requires.1 a.raw.now c.requires.2 _ _ (search rules) a.self.keys a.self.tone _ _ _ refl c.grown_len.ensures.0 c.grown_len.ensures.1 h.0 h.1)

@@ -8,7 +8,6 @@ use Rattle.khiin.proofs.syllable.compose.Composer.compose_any.Goals as goal
 
 pub returns-in-Some : goal.returns-in-Some
 returns-in-Some c =
-    λ raw_input e.
     let body = c.args.body.now in
-    c.in-Some.ensures.1 raw_input e
-    ∙ ap (λ (k : Checked). compose_of unicode16 c.args.self.tone c.args.self.khin (good raw_input) k c.args.out.now) (sym (check_within_law unicode16 body c.requires ∙ ascii_good body (c.in-Some.ensures.0 refl)))
+    c.in-Some.ensures.1
+    ∙ ap (λ (k : Checked). compose_of unicode16 c.args.self.tone c.args.self.khin (good c.args.self.input.points) k c.args.out.now) (sym (check_within_law unicode16 body c.requires ∙ ascii_good body (c.in-Some.ensures.0 refl)))

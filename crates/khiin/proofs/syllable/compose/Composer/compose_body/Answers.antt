@@ -12,7 +12,6 @@ use Rattle.khiin.specs.Syllable.{compose, compose_of}
 use Rattle.khiin.proofs.syllable.compose.Reading.{points_fewer, read_whole}
 use native.Mathlib.Omega.{arith}
 use Rattle.khiin.proofs.syllable.compose.Composer.compose_body.Goals as goal
-use Rattle.khiin.proofs.syllable.compose.Composer.compose_body.Goals.{After-code_points}
 
 pub compose_points-requires : goal.compose_points-requires
 compose_points-requires c =
@@ -22,14 +21,12 @@ compose_points-requires c =
 pub returns-in_err-len : goal.returns-in_err-len
 returns-in_err-len c =
     let p = err_from_is_err_and c.from_residual.result c.from_residual.ensures.1 in
-    rw (p.1, p.2) (λ raw_input e.
-    let h = points_refused c.args.body.now c.args.points.now c.code_points.new.out c.requires.1 c.code_points.ensures c.in_err-len.field-0.0 c.in_err-len.was in
-    ap (λ (k : Checked). compose_of unicode16 c.args.self.tone c.args.self.khin (good raw_input) k c.args.out.now) (sym (check_within_law unicode16 c.args.body.now c.requires.0 ∙ h)))
+    rw (p.1, p.2) (let h = points_refused c.args.body.now c.args.points.now c.code_points.new.out c.requires.1 c.code_points.ensures c.in_err-len.field-0.0 c.in_err-len.was in
+    ap (λ (k : Checked). compose_of unicode16 c.args.self.tone c.args.self.khin (good c.args.self.input.points) k c.args.out.now) (sym (check_within_law unicode16 c.args.body.now c.requires.0 ∙ h)))
 
 pub returns : goal.returns
 returns c =
-    λ raw_input e.
     let h = read_whole c.args.body.now c.args.points.now c.code_points.new.out c.requires.0 c.requires.1 c.code_points.ensures c.in_ok-len.len c.in_ok-len.was in
-    c.compose_points.ensures raw_input e
-    ∙ ap (λ (s : List ℕ). placed 0 (encode (compose unicode16 raw_input s c.args.self.tone c.args.self.khin)) c.args.out.now) (written_take h.2)
-    ∙ ap (λ (k : Checked). compose_of unicode16 c.args.self.tone c.args.self.khin (good raw_input) k c.args.out.now) (sym h.1)
+    c.compose_points.ensures
+    ∙ ap (λ (s : List ℕ). placed 0 (encode (compose unicode16 c.args.self.input.points s c.args.self.tone c.args.self.khin)) c.args.out.now) (written_take h.2)
+    ∙ ap (λ (k : Checked). compose_of unicode16 c.args.self.tone c.args.self.khin (good c.args.self.input.points) k c.args.out.now) (sym h.1)

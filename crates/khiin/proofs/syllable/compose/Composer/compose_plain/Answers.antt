@@ -14,8 +14,7 @@ returns-in-No c =
     let s = c.args.s.now in
     let plain = c.is_plain.ensures c.if-is_plain.true in (
       λ h. plain.ascii,
-      λ raw_input e.
-          subst (QuickAs _ c.args.out.now _)
-          (ap (λ (v : List ℕ). placed 0 (encode v) c.args.out.now) (plain_composed s plain raw_input c.args.self.tone ∙ ap (compose unicode16 raw_input s c.args.self.tone) (sym c.in-No.is)))
-          (c.place_plain.ensures raw_input e),
+      subst (QuickAs _ c.args.out.now _)
+          (ap (λ (v : List ℕ). placed 0 (encode v) c.args.out.now) (plain_composed s plain c.args.self.input.points c.args.self.tone ∙ ap (compose unicode16 c.args.self.input.points s c.args.self.tone) (sym c.in-No.is)))
+          c.place_plain.ensures,
     )

@@ -15,8 +15,8 @@ place_spelled-requires c =
 
 pub returns : goal.returns
 returns c =
-    λ raw_input body e f.
-    c.place_spelled.ensures raw_input e
+    λ body f.
+    c.place_spelled.ensures
     ∙ ap (λ (u : List ℕ). placed 0 (encode u) c.args.out.now)
-    (ap (λ (u : List ℕ). composed_with unicode16 raw_input u (mark_of c.args.self.tone)) c.write_whole-n.ensures.0.is
-    ∙ composed_is raw_input body c.args.s.now c.args.self.tone c.args.self.khin f)
+    (ap (λ (u : List ℕ). composed_with unicode16 c.args.self.input.points u (mark_of c.args.self.tone)) c.write_whole-n.ensures.0.is
+    ∙ composed_is c.args.self.input.points body c.args.s.now c.args.self.tone c.args.self.khin f)

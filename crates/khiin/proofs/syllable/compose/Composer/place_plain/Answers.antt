@@ -16,7 +16,6 @@ place_joined-requires c =
 
 pub returns-in_default : goal.returns-in_default
 returns-in_default c =
-    λ raw_input e.
     let s = c.args.s.now in
     c.place_bytes.ensures
-    ∙ ap (λ (u : List ℕ). placed 0 u c.args.out.now) (sym (ascii_encoded s c.requires) ∙ ap (λ (mark : List ℕ). encode (composed_with unicode16 raw_input s mark)) (mark_told c.args.self.tone c.in_default.is c.mark_of.ensures))
+    ∙ ap (λ (u : List ℕ). placed 0 u c.args.out.now) (sym (ascii_encoded s c.requires) ∙ ap (λ (mark : List ℕ). encode (composed_with unicode16 c.args.self.input.points s mark)) (mark_told c.args.self.tone c.in_default.is c.mark_of.ensures))

@@ -13,9 +13,9 @@ use Rattle.khiin.proofs.syllable.compose.Composer.place_settled.Goals as goal
 
 pub returns-in-No : goal.returns-in-No
 returns-in-No c =
-    λ raw_input body e f.
-    c.place_spelled.ensures raw_input e
+    λ body f.
+    c.place_spelled.ensures
     ∙ ap (λ (u : List ℕ). placed 0 (encode u) c.args.out.now)
-    (ap (λ (u : List ℕ). composed_with unicode16 raw_input u (mark_of c.args.self.tone)) c.put_dot-m.ensures.0.is
-    ∙ composed_is raw_input body (take c.args.settled.len c.args.s.now) c.args.self.tone No f
-    ∙ ap (λ (h : Khin). compose unicode16 raw_input body c.args.self.tone h) (sym c.in-No.is))
+    (ap (λ (u : List ℕ). composed_with unicode16 c.args.self.input.points u (mark_of c.args.self.tone)) c.put_dot-m.ensures.0.is
+    ∙ composed_is c.args.self.input.points body (take c.args.settled.len c.args.s.now) c.args.self.tone No f
+    ∙ ap (λ (h : Khin). compose unicode16 c.args.self.input.points body c.args.self.tone h) (sym c.in-No.is))
