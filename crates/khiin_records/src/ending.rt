@@ -27,13 +27,6 @@ impl Ending {
         b'0' + self.tone.number() as u8
     }
 
-    // How many keys it is: the digit, and 0 for khin.
-    pub(crate) fn len(self) -> usize
-        ensures { result ≡ length (keys_of self) }
-    {
-        1 + self.khin.number() as usize
-    }
-
     // Writes the keys at `at`, and returns the place behind them.
     pub(crate) fn put(self, out: &mut [u8], at: usize) -> usize
         requires { at + 2 ≤ length out.old }
