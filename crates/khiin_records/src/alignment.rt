@@ -50,15 +50,16 @@ fn candidate_prefix(keys: &[u8], text: Stripped, vowel: u8, letters: &mut [u8]) 
     shared_prefix(keys, &letters[..len])
 }
 
-// Whether the later of two candidates is taken, by how many keys are shared with each: of two that share as many it is the later. `max` would not say
-// which of the two it is.
+// Whether the later of two candidates is taken, by how many keys are shared with each: of two that share as many it is the later. `max` gives the same
+// number, and has no line for the gate's edit `ties_to_the_earlier`, which has to keep its meaning.
 fn takes_later(earlier: usize, later: usize) -> bool
     ensures { result ≡ leb earlier later }
 {
     earlier <= later
 }
 
-// How many keys are shared with the candidate that shares most: the one with u or, where U+0358 occurs, the one with o. `letters` is used up.
+// How many keys are shared with the candidate that shares most: the one with u or, where U+0358 occurs, the one with o. `letters` is used up. Keys and text
+// stay two parameters, here and below: a struct of both would be made once, in `align_within`, and taken apart in each function.
 fn spelled_prefix(keys: Keys, text: Stripped, letters: &mut [u8]) -> usize
     requires { length text.rest.now + 2 ≤ length letters.old }
     ensures { NearestPrefix keys.entry.bytes.now text.entry.rest.now text.entry.ending result }

@@ -100,7 +100,8 @@ pub(crate) struct Spelled {
     pub(crate) count: u8,
 }
 
-// Copies the ASCII bytes that `s` begins with, and returns their number. Most texts have no other. khiin's copies a whole text or nothing.
+// Copies the ASCII bytes that `s` begins with, and returns their number. Most texts have no other. khiin's copies a whole text or nothing. It goes byte
+// by byte and ends at the first that is not ASCII, which is one walk: `position` and a copy would be two.
 fn copy_ascii(s: &[u8], out: &mut [u8]) -> usize
     requires { length s.now ≤ length out.old }
     ensures { (vowel : ℕ) → Walking vowel s.now out.old out.new result result 1 }
