@@ -177,18 +177,12 @@ fn respell_nasals(s: &mut [u16]) -> usize
     shrink_pair(&mut s[..k], CAPITAL_N, CAPITAL_N, CAPITAL_SIGN)
 }
 
-// Whether nn, case ignored, stands anywhere in `s` but at its end. `windows(2)` over all but the last code point is no plainer: the empty text would
-// need a case.
-#[tactic(auto, unfolding(crate::specs::Compose::is_nasal_pair))]
+// Whether nn, case ignored, stands anywhere in `s` but at its end: with a code point behind it.
+#[tactic(auto, using(crate::proofs::syllable::compose::Once::nasal_at))]
 fn has_nasal(s: &[u16]) -> bool
     ensures { result ≡ false → NoNasalBefore s.now }
 {
-    for i in 2..s.len() {
-        if lower(s[i - 2]) == N && lower(s[i - 1]) == N {
-            return true;
-        }
-    }
-    false
+    s.windows(3).any(|w| lower(w[0]) == N && lower(w[1]) == N)
 }
 
 // The nasal rules where nn stands at the end only: the sign takes its place.
