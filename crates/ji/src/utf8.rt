@@ -42,7 +42,8 @@ fn is_second(a: u32, b: u32) -> bool
     }
 }
 
-// The sequence of two bytes that `s` begins with. One function for these three would be a case for each row of Table 3-7.
+// The sequence of two bytes that `s` begins with. It and the next two are a function each: what the first byte gives of the
+// code point, what is asked of the second, and how many bytes follow differ, and one function would have a case for each.
 fn read_two(s: &[u8]) -> Option<Sequence>
     requires { (0 < length s.now) × (0xC2 ≤ get_or s.now 0 0) × (get_or s.now 0 0 ≤ 0xDF) }
     ensures { ReadOf s.now result }

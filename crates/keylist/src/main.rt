@@ -1,4 +1,4 @@
-// Reads one entry from standard input and prints its keyings. `keylist_empty`, `keylist_four` and `keylist_refused` are the same four lines: a program
+// Reads one entry from standard input and prints its keyings. `keylist_empty`, `keylist_four` and `keylist_refused` are the same program: one
 // stands beside one input that it is run on.
 #![tactic(auto)]
 

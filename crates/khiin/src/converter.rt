@@ -221,8 +221,8 @@ fn edit_at(key: u8, text: &[u8]) -> Edit
     edit_by(lower_byte(key), lower(before), unicode::last_point(text))
 }
 
-// Writes the first `at` bytes of `bytes`, and the key behind them. Here and below a slice is the room, and a number how much of it is the text: a text grows
-// by a key or a mark into the room behind it, and a struct of both would be taken apart in each function.
+// Writes the first `at` bytes of `bytes`, and the key behind them. Here and below a slice is the room, and a number how much of it is the text, since a text
+// grows by a key or a mark into the room behind it.
 fn place_key(bytes: &mut [u8], at: usize, key: u8, out: &mut [u8]) -> Result<ByteLen, Refusal>
     requires { at < length bytes.old }
     ensures { text_reply result out.new ≡ placed 0 (take at bytes.old ++ (key ∷ [])) out.old }

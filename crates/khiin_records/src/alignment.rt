@@ -59,7 +59,7 @@ fn takes_later(earlier: usize, later: usize) -> bool
 }
 
 // How many keys are shared with the candidate that shares most: the one with u or, where U+0358 occurs, the one with o. `letters` is used up. Keys and text
-// stay two parameters, here and below: a struct of both would be made once, in `align_within`, and taken apart in each function.
+// stay two parameters, here and below: a struct of both would be made at one place, `align_within`, for these few functions.
 fn spelled_prefix(keys: Keys, text: Stripped, letters: &mut [u8]) -> usize
     requires { length text.rest.now + 2 ≤ length letters.old }
     ensures { NearestPrefix keys.entry.bytes.now text.entry.rest.now text.entry.ending result }

@@ -6,7 +6,8 @@ use ji::lomaji::{khin, strip};
 use ji::reply::Refusal;
 
 // What stands behind khin in a stripped text, and what its raw input ends in. That the rest has at most 640 bytes, and which code points it is the UTF-8
-// of, is said in the clauses that need it: few need both, and a ghost field would not say that the code points are those that the definitions make.
+// of, is said in the five clauses that need it: of ghost fields each caller of `of` would have to show that they are the code points which the
+// definitions make.
 #[derive(Clone, Copy)]
 pub(crate) struct Stripped<'a> {
     pub rest: &'a [u8],

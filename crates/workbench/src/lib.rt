@@ -69,7 +69,7 @@ pub fn wb_keys(text: &[u8], form: u64, kind: u64, out: &mut [u8]) -> Reply
     to_reply(keys::keys(text, form_of(form), kind_of(kind), out))
 }
 
-// 0 is plain, any other number `_oo`: for every number, as in `robinflint::arguments`.
+// 0 is plain, any other number `_oo`. The call asks of both its numbers at once before, as those of `robinflint` do.
 fn form_of(number: u64) -> Form
     ensures { result ≡ form_of number }
 {

@@ -152,7 +152,7 @@ fn shrink_pair(s: &mut [u16], a: u16, b: u16, c: u16) -> usize
 
 // Takes each `c` out, in place, and returns how many code points are left: the places are counted, since those that are read and written are of one
 // slice. One function for this and `shrink_pair`, of a pattern and what takes its place, would make two arrays at each call and copy a slice of one code
-// point or none at each turn.
+// point or none where the pattern stands.
 fn take_out(s: &mut [u16], c: u16) -> usize
     ensures { Written s.old s.new result (replace_all (c ∷ []) [] s.old) }
 {
@@ -239,7 +239,7 @@ fn move_sign(s: &mut [u16], sign: u16) -> usize
     }
 }
 
-// A text at the front of a buffer: how many code points it has, and whether none before its end is a sign. The buffer is no field, since a struct
+// A text at the front of a buffer: how many code points it has, and whether it is known that none before its end is a sign. The buffer is no field, since a struct
 // with it would be taken apart in each function: one needs the text alone, the next the room behind it too.
 #[derive(Clone, Copy)]
 struct Settled {

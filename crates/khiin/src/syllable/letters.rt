@@ -3,7 +3,8 @@ ghost use Rattle.std.specs.Prelude.{◌≡◌};
 ghost use Rattle.ji.specs.Unicode.{listed};
 ghost use Rattle.ji.specs.Text.{points as points_of};
 
-// The letters that the rules and the tables name, small and capital.
+// The letters that the rules and the tables name, small and capital. ji has some of them for the tone letter: its stated meaning alone is used here, and no
+// constant of it.
 pub(crate) const CAPITAL_A: u16 = b'A' as u16;
 
 pub(crate) const CAPITAL_E: u16 = b'E' as u16;
