@@ -27,7 +27,7 @@ pub struct Reply {
     pub position: u64,
 }
 
-// The numbers of a call that gives none.
+// The numbers of a call that gives none: a constant, which proofs compute, where `default` would be a call.
 pub const ZEROS: Reply = Reply {
     code: 0,
     length: 0,
