@@ -50,13 +50,18 @@ fn passed(class: u8, s: &[u16]) -> usize
         .count()
 }
 
-// Moves the code point at i behind those that it is exchanged with.
+// Moves the code point at i behind those that it is exchanged with. A loop, since `rotate_left` calls memmove, which a C
+// program would have to supply too.
 fn insert(s: &mut [u16], i: usize)
     requires { i < length s.old }
     ensures { s.new ≡ take i s.old ++ insert unicode16 (get_or s.old i 0) (drop (i + 1) s.old) }
 {
-    let end = i + 1 + passed(class_of(s[i]), &s[i + 1..]);
-    s[i..end].rotate_left(1);
+    let a = s[i];
+    let end = i + passed(class_of(a), &s[i + 1..]);
+    for j in i..end {
+        s[j] = s[j + 1];
+    }
+    s[end] = a;
 }
 
 // The insertions, from the last code point to the first. The library's stable sort asks for memory of its own, and

@@ -65,14 +65,25 @@ fn copy_few(s: &[u8], out: &mut [u8])
     out[last] = s[last];
 }
 
-// Copies the bytes `s` to the front of `out`. Most texts have at most eight, for which a call of memcpy costs more than
-// the stores: the first four and the last four, though these may share some.
+// Copies the bytes `s` to the front of `out`, one after the other: `copy_from_slice` calls memmove, which a C program
+// would have to supply too.
+fn copy_each(s: &[u8], out: &mut [u8])
+    requires { length s.now ≤ length out.old }
+    ensures { Written out.old out.new (length s.now) s.now }
+{
+    for (i, &b) in s.iter().enumerate() {
+        out[i] = b;
+    }
+}
+
+// Copies the bytes `s` to the front of `out`. Most texts have at most eight, which go without a loop: the first four and
+// the last four, though these may share some.
 pub(crate) fn copy(s: &[u8], out: &mut [u8])
     requires { length s.now ≤ length out.old }
     ensures { Written out.old out.new (length s.now) s.now }
 {
     if 8 < s.len() {
-        out[..s.len()].copy_from_slice(s);
+        copy_each(s, out);
     } else if s.len() < 4 {
         copy_few(s, out);
     } else {

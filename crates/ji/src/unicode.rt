@@ -110,7 +110,7 @@ pub(crate) fn decode(s: &[u8], decomposed: bool, out: &mut [u16]) -> Result<Char
             n = put(Spread::One(u16::from(a)), out, n);
             i += 1;
         } else {
-            let Some(sequence) = utf8::read(&s[i..]) else {
+            let Some(sequence) = utf8::read(s, i) else {
                 return Err(Refusal::IllFormed);
             };
             if !ucd::is_member(sequence.point) {
@@ -143,7 +143,8 @@ fn widen(s: &[u8], out: &mut [u16]) -> usize
 }
 
 // The code points of `text`, as they are, read into a buffer of our own, which has three places for every two bytes. A text that is refused may leave
-// some there.
+// some there. Written into its callers, so that the answer need not go through memory.
+#[inline(always)]
 pub(crate) fn read_points(text: &[u8], out: &mut [u16]) -> Result<CharLen, Refusal>
     requires { length text.now ≤ length out.old / 3 * 2 }
     ensures { Reading unicode16 false text.now out.old out.new result }
@@ -179,7 +180,7 @@ fn count_points(s: &[u8]) -> Result<CharLen, Refusal>
             i += 1;
             n += 1;
         } else {
-            let Some(sequence) = utf8::read(&s[i..]) else {
+            let Some(sequence) = utf8::read(s, i) else {
                 return Err(Refusal::IllFormed);
             };
             if !ucd::is_member(sequence.point) {
@@ -224,7 +225,8 @@ fn long_points(text: &[u8], out: &mut [u16]) -> Result<CharLen, Refusal>
     decode(text, false, out)
 }
 
-// The code points of `text`, as they are, in `out`. A refusal writes nothing.
+// The code points of `text`, as they are, in `out`. A refusal writes nothing. Written into its callers, as `check` is.
+#[inline(always)]
 pub fn code_points(text: &[u8], out: &mut [u16]) -> Result<CharLen, Refusal>
     ensures { points_reply result out.new ≡ points_call unicode16 text.now out.old }
 {
@@ -248,7 +250,9 @@ fn check_points(s: &[u8]) -> Result<(), Refusal>
     Ok(())
 }
 
-// Whether `text` is a text of the table of at most `limit` bytes.
+// Whether `text` is a text of the table of at most `limit` bytes. Written into its callers: for a short text the call would
+// cost as much as the look.
+#[inline(always)]
 pub fn check(text: &[u8], limit: usize) -> Result<(), Refusal>
     ensures { result ≡ verdict_of (check_within unicode16 limit text.now) }
 {
@@ -277,7 +281,7 @@ pub fn last_point(text: &[u8]) -> u16
     if text.is_empty() {
         return 0;
     }
-    match utf8::read(&text[utf8::last_start(text)..]) {
+    match utf8::read_any(&text[utf8::last_start(text)..]) {
         Some(sequence) => u16::try_from(sequence.point).unwrap_or(0),
         None => 0,
     }

@@ -98,17 +98,24 @@ pub(crate) fn read_any(s: &[u8]) -> Option<Sequence>
     }
 }
 
-// The same, small enough to be compiled into a caller's loop: a sequence of one byte or two is read in place, where a
-// call for each would be too slow.
-pub(crate) fn read(s: &[u8]) -> Option<Sequence>
-    requires { 0 < length s.now }
-    ensures { ReadOf s.now result }
+// The sequence that begins at `at`, small enough to be compiled into a caller's loop: one of one byte or two is read in
+// place, where a call for each would be too slow. It takes the place and no slice from there on: with the slices that they
+// would make, the loops over texts take up to half as long again.
+pub(crate) fn read(s: &[u8], at: usize) -> Option<Sequence>
+    requires { at < length s.now }
+    ensures { ReadOf (drop at s.now) result }
 {
-    let a = byte_at(s, 0);
+    let a = byte_at(s, at);
     match a {
         0x00..=0x7F => Some(Sequence { width: 1, point: a }),
-        0xC2..=0xDF => read_two(s),
-        _ => read_any(s),
+        0xC2..=0xDF => {
+            let b = byte_at(s, at + 1);
+            is_later(b).then_some(Sequence {
+                width: 2,
+                point: a % 32 * 64 + b % 64,
+            })
+        }
+        _ => read_any(&s[at..]),
     }
 }
 

@@ -2,7 +2,7 @@
 use Rattle.std.specs.Prelude.{◌≡◌, Bool, true, false, not, ◌&&◌, ◌||◌, List, [], ◌∷◌, ◌++◌, ℕ, ◌+◌, ◌-◌, ◌≤◌, ◌<◌, ltb, eqb, length, take, drop, get_or}
 use Rattle.std.proofs.Math.Option.{none, some}
 use Rattle.ji.specs.Unicode.{unicode16, listed, composite}
-use Rattle.ji.specs.Text.{points, point, lower, begins, all_ascii}
+use Rattle.ji.specs.Text.{points, marked, point, lower, begins, all_ascii}
 use Rattle.ji.specs.Reply.{Reply, text_reply}
 use Rattle.ji.specs.Lomaji.Keys.{respell}
 use Rattle.khiin.specs.Syllable.{vowel_rules, o_rules, ends_nasal, nasalised, moved}
@@ -74,6 +74,23 @@ pub record Plain (s : List ℕ) : Type 0 where
 abbrev pub QuickAs : Option (Result ByteLen Refusal) → List ℕ → List ℕ → Reply → Type 0
 QuickAs None before after reply = after ≡ before
 QuickAs (Some r) before after reply = text_reply r after ≡ reply
+
+-- the vowel rules that begin with o, and those that begin with e, for a second vowel in both cases
+abbrev pub o_pairs : ℕ → ℕ → List (List ℕ × List ℕ)
+o_pairs small capital =
+    (points "o" ++ (small ∷ []), marked "o" 0x0358)
+    ∷ (points "o" ++ (capital ∷ []), marked "o" 0x0358)
+    ∷ (points "O" ++ (small ∷ []), marked "O" 0x0358)
+    ∷ (points "O" ++ (capital ∷ []), marked "O" 0x0358)
+    ∷ []
+
+abbrev pub e_pairs : ℕ → ℕ → List (List ℕ × List ℕ)
+e_pairs small capital =
+    (points "e" ++ (small ∷ []), small ∷ 0x0324 ∷ [])
+    ∷ (points "E" ++ (small ∷ []), small ∷ 0x0324 ∷ [])
+    ∷ (points "e" ++ (capital ∷ []), capital ∷ 0x0324 ∷ [])
+    ∷ (points "E" ++ (capital ∷ []), capital ∷ 0x0324 ∷ [])
+    ∷ []
 
 -- a text begins with the pattern of one of some rules
 abbrev pub begins_any : List (List ℕ × List ℕ) → List ℕ → Bool

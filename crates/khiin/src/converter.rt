@@ -368,7 +368,8 @@ impl Step {
     }
 
     // Writes what a branch makes of the stripped text, the first `n` of `bytes`. A match: the definition names Edit, and a closure for
-    // each branch would hide which it is.
+    // each branch would hide which it is. Written into its caller, where the branch of an ASCII text is known.
+    #[inline(always)]
     #[tactic(auto, unfolding(ji::specs::Utf8::encode, ji::specs::Text::but_last, ji::specs::Text::lower, crate::specs::Telex::composed_of, crate::specs::Converter::step))]
     fn finish(
         self,
@@ -397,15 +398,18 @@ impl Step {
     }
 }
 
-// Copies `text` to the front of `bytes`, if it is ASCII, and says whether it is. The function of this name in khiin_records is another crate's.
+// Copies `text` to the front of `bytes`, as far as it is ASCII, and says whether all of it is. It goes byte by byte, which is one walk: a look at all of a text
+// and a copy would be two, and `copy_from_slice` calls memmove. The function of this name in khiin_records is another crate's.
 fn copy_ascii(text: &[u8], bytes: &mut [u8]) -> bool
     requires { length text.now ≤ length bytes.old }
     ensures { result ≡ true → (all_ascii text.now ≡ true) × (take (length text.now) bytes.new ≡ text.now) }
 {
-    if !text.is_ascii() {
-        return false;
+    for (i, &b) in text.iter().enumerate() {
+        if !b.is_ascii() {
+            return false;
+        }
+        bytes[i] = b;
     }
-    bytes[..text.len()].copy_from_slice(text);
     true
 }
 

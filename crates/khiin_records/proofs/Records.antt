@@ -2,23 +2,24 @@
 use mathlib.Core.Path.{◌≡◌, refl, sym, ap, ◌∙◌}
 use mathlib.Core.Bool.{Bool, true, false}
 use mathlib.Core.List.{List, [], ◌∷◌, append-nil}
-use Prim.Native.Nat.{ℕ, ◌-◌, ◌<◌}
+use Prim.Native.Nat.{ℕ, zero, suc, ◌-◌, ◌<◌}
 use native.Mathlib.Omega.{arith}
 use lib.Dec.{leb}
-use lib.ListN.{length, take}
+use lib.ListN.{length, take, drop}
 use lib.Seq.{length-take-le}
-use Rattle.ji.specs.Unicode.{listed}
-use Rattle.ji.specs.Text.{points, all_ascii, but_last, last}
+use Rattle.ji.specs.Unicode.{unicode16, member, members, listed, pick_text}
+use Rattle.ji.specs.Text.{points, begins, all_ascii, but_last, last}
 use Rattle.ji.specs.Utf8.{encode}
 use Rattle.ji.specs.Tone.{is_tone}
 use Rattle.ji.specs.Reply.{Reply, refused, over, pick_reply, answered, placed}
+use Rattle.ji.specs.Lomaji.Khin.{without_khin}
 use Rattle.ji.specs.declared.reply.Refusal.{Refusal}
 use Rattle.ji.specs.declared.reply.Refusal.TheVariants.{NoRoom}
 use Rattle.ji.specs.declared.tone.Tone.{Tone}
 use Rattle.ji.specs.declared.tone.Tone.TheVariants.{None, T1, T2, T3, T4, T5, T6, T7, T8, T9}
 use Rattle.ji.specs.declared.lomaji.khin.Khin.{Khin}
 use Rattle.ji.specs.declared.lomaji.khin.Khin.TheVariants.{No, Yes}
-use Rattle.ji.proofs.Bools.{either, false_true}
+use Rattle.ji.proofs.Bools.{either, false_true, and_right, text_yes, text_no}
 use Rattle.ji.proofs.Replies.{refusal_some}
 use Rattle.ji.proofs.unicode.Ascii.{ascii_bytes, ascii_take}
 use Rattle.ji.proofs.unicode.Bytes.{but_last_law}
@@ -159,3 +160,20 @@ module _ (t : Tone) (k : Khin) (s : List ℕ) where
 
   pub candidates_one : listed s 0x0358 ≡ false → candidates_of t k s ≡ candidate t k s (points "u") ∷ []
   candidates_one e = ap (λ (b : Bool). pick_syllables b (candidate t k s (points "u") ∷ candidate t k s (points "o") ∷ []) (candidate t k s (points "u") ∷ [])) e
+
+-- ── the text behind khin
+members_drop : (n : ℕ) (s : List ℕ) → members unicode16 s ≡ true → members unicode16 (drop n s) ≡ true
+unfolding members
+members_drop zero s h = h
+members_drop (suc n) [] h = h
+members_drop (suc n) (c ∷ s) h = members_drop n s (and_right (member unicode16 c) (members unicode16 s) h)
+
+pub members_behind : (s : List ℕ) → members unicode16 s ≡ true → members unicode16 (without_khin s) ≡ true
+unfolding without_khin
+members_behind s h =
+    either (begins (points "--") s)
+    (λ e. rw (text_yes (begins (points "--") s) (drop 2 s) (pick_text (begins (points "·") s) (drop 1 s) s) e) (members_drop 2 s h))
+    (λ e. rw (text_no (begins (points "--") s) (drop 2 s) (pick_text (begins (points "·") s) (drop 1 s) s) e)
+    (either (begins (points "·") s)
+    (λ f. rw (text_yes (begins (points "·") s) (drop 1 s) s f) (members_drop 1 s h))
+    (λ f. rw (text_no (begins (points "·") s) (drop 1 s) s f) h)))

@@ -8,24 +8,23 @@ ghost use Rattle.ucd.specs.Answer.{text_of, said, point_of};
 
 mod table;
 
-// c is a code point of the table.
+// c is a code point of the table. The ranges follow each other, and so do their tests: as one pattern, which is tested in another order, the reading of UTF-8 is
+// slower.
 #[tactic(auto, using(std::proofs::lemmas::Bool::Decides::nat_tests), unfolding(crate::specs::Table::member, crate::specs::Table::in_ranges, crate::specs::Unicode16::unicode16, crate::specs::Unicode16::ranges16))]
 pub fn is_member(c: u32) -> bool
     ensures { result ≡ member unicode16 c }
 {
-    matches!(
-        c,
-        0x0000..=0x007F
-            | 0x00B7
-            | 0x00C0..=0x024F
-            | 0x0292
-            | 0x0300..=0x036F
-            | 0x1D3A
-            | 0x1E00..=0x1EFF
-            | 0x207F
-            | 0x2260
-            | 0x226E..=0x226F
-    )
+    match c {
+        0x0000..=0x007F => true,
+        0x0080..=0x00BF => c == 0x00B7,
+        0x00C0..=0x024F => true,
+        0x0250..=0x02FF => c == 0x0292,
+        0x0300..=0x036F => true,
+        0x0370..=0x1DFF => c == 0x1D3A,
+        0x1E00..=0x1EFF => true,
+        0x1F00..=0x225F => c == 0x207F,
+        _ => matches!(c, 0x2260 | 0x226E..=0x226F),
+    }
 }
 
 // What a code point decomposes to: itself, where it has no mapping.

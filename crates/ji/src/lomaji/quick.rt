@@ -192,7 +192,7 @@ pub(crate) fn walk(s: &[u8], out: &mut [u8]) -> Option<(ByteLen, Tone)>
             n = push_ascii(a, out, n, &mut marks);
             i += 1;
         } else {
-            let sequence = utf8::read(&s[i..])?;
+            let sequence = utf8::read(s, i)?;
             if out.len() < n + (s.len() - i) + 9 || !ucd::is_member(sequence.point) {
                 return None;
             }

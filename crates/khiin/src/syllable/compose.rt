@@ -8,7 +8,7 @@ ghost use Rattle.ji.specs.Written.{Written};
 ghost use Rattle.ji.specs.Reply.{placed, text_reply, good, check_text};
 ghost use Rattle.ji.specs.Lomaji.Keys.{respell};
 ghost use Rattle.khiin.specs.Syllable.{vowel_rules, nasal_rules, o_rules, ends_nasal, nasalised, moved, spelled, khin_text, mark_of, composed_with, compose, compose_of, compose_call};
-ghost use Rattle.khiin.specs.Compose.{Front, is_pair, takes_dot, NoPairIn, NoNasalBefore, NoSignBefore, settled_body, SettledAs, DotAt, QuickAs};
+ghost use Rattle.khiin.specs.Compose.{Front, is_pair, apart_from, o_pairs, e_pairs, takes_dot, NoPairIn, NoNasalBefore, NoSignBefore, settled_body, SettledAs, DotAt, QuickAs};
 ghost use Rattle.khiin.specs.RawInput.{RawOf, one_raw};
 
 use crate::syllable::letters::{
@@ -77,26 +77,56 @@ fn respell_one(s: &mut [u16], at: usize)
     }
 }
 
-// The sixteen vowel rules, in place: they keep the length. A table of them with a walk is no plainer: these lines are it.
+// Whether anywhere in `s` the second letter, small or capital, stands behind the first. Before the first code point stands 0, as the definition has it.
+#[tactic(auto, unfolding(crate::specs::Compose::apart_from, ji::specs::Unicode::listed))]
+fn has_letters(s: &[u16], first: u16, capital_first: u16, second: u16, capital_second: u16) -> bool
+    ensures { result ≡ false → apart_from (first ∷ capital_first ∷ []) (second ∷ capital_second ∷ []) 0 s.now ≡ true }
+{
+    let mut before: u16 = 0;
+    for &x in s {
+        if (x == second || x == capital_second) && (before == first || before == capital_first) {
+            return true;
+        }
+        before = x;
+    }
+    false
+}
+
+// The four vowel rules for o and the vowel behind it, which gives way to U+0358, in place: they keep the length. One look tells whether they have
+// something to do: most bodies have pairs of one group of rules at most, and with the sixteen passes of all groups these would take up to half as long again.
+#[tactic(auto, using(crate::proofs::syllable::compose::Pairs::o_apart))]
+fn respell_o(s: &mut [u16], small: u16, capital: u16)
+    ensures { s.new ≡ respell (o_pairs small capital) s.old }
+{
+    if has_letters(s, O, CAPITAL_O, small, capital) {
+        replace_pair(s, O, small, O, DOT);
+        replace_pair(s, O, capital, O, DOT);
+        replace_pair(s, CAPITAL_O, small, CAPITAL_O, DOT);
+        replace_pair(s, CAPITAL_O, capital, CAPITAL_O, DOT);
+    }
+}
+
+// The same for e and the vowel behind it, which comes first, with U+0324.
+#[tactic(auto, using(crate::proofs::syllable::compose::Pairs::e_apart))]
+fn respell_e(s: &mut [u16], small: u16, capital: u16)
+    ensures { s.new ≡ respell (e_pairs small capital) s.old }
+{
+    if has_letters(s, E, CAPITAL_E, small, capital) {
+        replace_pair(s, E, small, small, DOTS);
+        replace_pair(s, CAPITAL_E, small, small, DOTS);
+        replace_pair(s, E, capital, capital, DOTS);
+        replace_pair(s, CAPITAL_E, capital, capital, DOTS);
+    }
+}
+
+// The sixteen vowel rules, in their order, which matters: what one writes may be part of a pair of a later one.
 fn respell_each(s: &mut [u16])
     ensures { s.new ≡ respell vowel_rules s.old }
 {
-    replace_pair(s, O, U, O, DOT);
-    replace_pair(s, O, CAPITAL_U, O, DOT);
-    replace_pair(s, CAPITAL_O, U, CAPITAL_O, DOT);
-    replace_pair(s, CAPITAL_O, CAPITAL_U, CAPITAL_O, DOT);
-    replace_pair(s, O, O, O, DOT);
-    replace_pair(s, O, CAPITAL_O, O, DOT);
-    replace_pair(s, CAPITAL_O, O, CAPITAL_O, DOT);
-    replace_pair(s, CAPITAL_O, CAPITAL_O, CAPITAL_O, DOT);
-    replace_pair(s, E, O, O, DOTS);
-    replace_pair(s, CAPITAL_E, O, O, DOTS);
-    replace_pair(s, E, CAPITAL_O, CAPITAL_O, DOTS);
-    replace_pair(s, CAPITAL_E, CAPITAL_O, CAPITAL_O, DOTS);
-    replace_pair(s, E, U, U, DOTS);
-    replace_pair(s, CAPITAL_E, U, U, DOTS);
-    replace_pair(s, E, CAPITAL_U, CAPITAL_U, DOTS);
-    replace_pair(s, CAPITAL_E, CAPITAL_U, CAPITAL_U, DOTS);
+    respell_o(s, U, CAPITAL_U);
+    respell_o(s, O, CAPITAL_O);
+    respell_e(s, O, CAPITAL_O);
+    respell_e(s, U, CAPITAL_U);
 }
 
 // The same, where one of them has something to do.
@@ -372,6 +402,7 @@ pub(crate) struct Composer<'a> {
 
 impl Composer<'_> {
     // Writes the text that `s`, as it is spelled, has with the mark of the tone; or the raw input, where there is no letter for it.
+    #[inline(always)]
     fn place_plain(self, s: &[u8], out: &mut [u8]) -> Option<Result<ByteLen, Refusal>>
         requires { all_ascii s.now ≡ true }
         ensures { QuickAs result out.old out.new (placed 0 (encode (composed_with unicode16 self.entry.input.points s.now (mark_of self.entry.tone))) out.old) }
@@ -385,7 +416,9 @@ impl Composer<'_> {
         }
     }
 
-    // Composes the body `s`, if it is plain and has no khin. None where it is not, and nothing is written.
+    // Composes the body `s`, if it is plain and has no khin. None where it is not, and nothing is written. Like what it calls,
+    // it is written into its callers: else the composer and the answer would go through memory.
+    #[inline(always)]
     pub(crate) fn compose_plain(self, s: &[u8], out: &mut [u8]) -> Option<Result<ByteLen, Refusal>>
         ensures { (IsSome result → all_ascii s.now ≡ true) × QuickAs result out.old out.new (placed 0 (encode (compose unicode16 self.entry.input.points s.now self.entry.tone self.entry.khin)) out.old) }
     {

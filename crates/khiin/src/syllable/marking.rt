@@ -244,12 +244,15 @@ fn is_settled(s: &[u16]) -> bool
     true
 }
 
-// Puts `mark` behind the first `k` code points of `s`, in place: what follows moves up by one, over the last.
+// Puts `mark` behind the first `k` code points of `s`, in place: what follows moves up by one, over the last. A loop, since
+// `rotate_right` calls memmove, which a C program would have to supply too.
 pub(crate) fn insert_mark(s: &mut [u16], k: usize, mark: u16)
     requires { k < length s.old }
     ensures { s.new ≡ inserted k mark s.old }
 {
-    s[k..].rotate_right(1);
+    for i in (k + 1..s.len()).rev() {
+        s[i] = s[i - 1];
+    }
     s[k] = mark;
 }
 

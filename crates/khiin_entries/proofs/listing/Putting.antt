@@ -20,6 +20,9 @@ put_start before at h = record { is = sym (take-append-drop at before); ends = o
 pub put_as : {before after : List ℕ} {at : ℕ} {text text' : List ℕ} {end : ℕ} → text ≡ text' → Put before after at text end → Put before after at text' end
 put_as e h = rw (← e) h
 
+pub put_to : {before after : List ℕ} {at : ℕ} {text : List ℕ} {end end' : ℕ} → end ≡ end' → Put before after at text end → Put before after at text end'
+put_to e h = rw (← e) h
+
 module _ {before after : List ℕ} {at : ℕ} {text : List ℕ} {end : ℕ} (h : Put before after at text end) where
   front : length (take at before) ≡ at
   front = length-take-le at before (omega (arith, h.ends, h.fits))

@@ -5,13 +5,14 @@ use mathlib.Core.List.{List, [], ◌∷◌, ◌++◌, append_assoc, append-nil}
 use mathlib.Core.Logic.{◌⊎◌, inl, inr}
 use Prim.Native.Nat.{ℕ, ◌+◌, ◌-◌, ◌≤◌, ◌<◌}
 use native.Mathlib.Omega.{arith}
-use lib.Dec.{T, ltb, ltb→lt}
+use lib.Dec.{T, leb, ltb, leb→le, ltb→lt}
 use lib.ListN.{length, drop, set}
 use lib.Seq.{paste}
-use Rattle.ucd.specs.Table.{Table, same, member, decomposition, combining_class}
+use Rattle.ucd.specs.Table.{Table, same, member, decomposition, combining_class, class_in}
 use Rattle.ucd.specs.Full.{full}
-use Rattle.ucd.specs.Unicode16.{unicode16}
+use Rattle.ucd.specs.Unicode16.{unicode16, classes16}
 use Rattle.ucd.proofs.Tests.{passes_true, both_left, both_right, same_equal}
+use Rattle.ucd.proofs.Lists.{each_class, class_passes}
 use Rattle.ucd.proofs.Unicode16.{low_atom, low_starter, full_itself, full_two}
 use Rattle.ji.specs.Written.{Written}
 use Rattle.ji.specs.Utf8.{width_at, point_at, SequenceOf, bytes_of, encode}
@@ -54,6 +55,23 @@ module _ (t : Table) where
 stays : (a b class : ℕ) → class ≡ combining_class unicode16 a → (combining_class unicode16 b ≡ 0) ⊎ (class ≤ combining_class unicode16 b) → Reorderable unicode16 a b → ⊥
 stays a b class is (inl k) r = omega (arith, r.1)
 stays a b class is (inr k) r = omega (arith, r.0)
+
+-- a code point with a class lies at 036F or below
+low_class : ℕ → ℕ → Bool
+low_class c class = leb c 0x036F
+
+classes_low : T (each_class low_class classes16)
+unfolding low_class classes16
+classes_low = tt
+
+-- what lies above 036F is a starter
+pub high_starter : (c : ℕ) → 0x036F < c → combining_class unicode16 c ≡ 0
+unfolding combining_class unicode16 low_class
+high_starter c high = go (class_passes low_class classes16 classes_low c)
+  where
+    go : (class_in classes16 c ≡ 0) ⊎ T (leb c 0x036F) → class_in classes16 c ≡ 0
+    go (inl e) = e
+    go (inr h) = absurd (let low : c ≤ 0x036F = leb→le c 0x036F h in let z : ⊥ = omega arith in z)
 
 -- ── stripping, with one code point more at the end
 pub without_append : (s u : List ℕ) → without_marks (s ++ u) ≡ without_marks s ++ without_marks u

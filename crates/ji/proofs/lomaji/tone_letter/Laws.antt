@@ -56,6 +56,12 @@ first_letter k h =
     (refl, omega arith, omega arith) (refl, omega arith, omega arith) (refl, omega arith, omega arith)
     k h
 
+-- what holds of all holds of each
+pub all_at : (P : ℕ → Type 0) (xs : List ℕ) → All P xs → (k : ℕ) → k < length xs → P (get_or xs k 0)
+all_at P [] h k l = let no_way : ⊥ = omega arith in absurd no_way
+all_at P (x ∷ xs) h zero l = h.0
+all_at P (x ∷ xs) h (suc k) l = all_at P xs h.1 k (omega arith)
+
 -- ── letters
 pub listed_none : (xs : List ℕ) (x : ℕ) → All (λ y. x ≡ y → ⊥) xs → false ≡ listed xs x
 unfolding listed

@@ -8,7 +8,7 @@ use Rattle.ucd.specs.Unicode16.{unicode16}
 use Rattle.ji.specs.Utf8.{width_at, point_at, SequenceOf}
 use Rattle.ji.specs.Unicode.{accepted}
 use Rattle.ji.proofs.Parts.{part_is}
-use Rattle.ji.proofs.utf8.Decoding.{width_most, read_part, ill_part}
+use Rattle.ji.proofs.utf8.Decoding.{width_most}
 use Rattle.ji.proofs.unicode.Laws.{accepted_end}
 use Rattle.ji.proofs.unicode.Reader.{taken_start, taken_end, taken_all, taken_ill, taken_fault, taken_more}
 use native.Mathlib.Omega.{arith}
@@ -34,7 +34,7 @@ loop-i-init c = let a = c.args in ([], taken_start unicode16 a.s.now, refl, omeg
 pub returns-in_default : goal.returns-in_default
 returns-in_default c =
     let l = c.loop-i in
-    taken_ill unicode16 c.args.s.now l.invariant.0 l.i l.invariant.1 c.loop-i-test.true (ill_part c.args.s.now l.i c.in_default.ensures)
+    taken_ill unicode16 c.args.s.now l.invariant.0 l.i l.invariant.1 c.loop-i-test.true c.in_default.ensures
 
 one_more : (s : List ℕ) (i n w p : ℕ) (taken : Counted s i n) → i < length s → SequenceOf (drop i s) w p → member unicode16 p ≡ true → Counted s (i + w) (n + 1)
 one_more s i n w p (u, taken, size, few) h q m = (
@@ -53,7 +53,7 @@ loop-i-preserved-then-s-i-lt128 c =
 
 pub overflow_add-i-else-s-i-lt128 : goal.overflow_add-i-else-s-i-lt128
 overflow_add-i-else-s-i-lt128 c =
-    let k = step c.args.s.now c.loop-i.i _ _ (read_part c.args.s.now c.loop-i.i _ _ c.in-Some.ensures) in
+    let k = step c.args.s.now c.loop-i.i _ _ c.in-Some.ensures in
     omega arith
 
 pub overflow_add-n : goal.overflow_add-n
@@ -67,13 +67,13 @@ loop-i-smaller c = omega (arith, c.in-Some.ensures.some)
 
 pub loop-i-preserved : goal.loop-i-preserved
 loop-i-preserved c =
-    one_more c.args.s.now c.loop-i.i c.loop-i.n _ _ c.loop-i.invariant c.loop-i-test.true (read_part c.args.s.now c.loop-i.i _ _ c.in-Some.ensures) (sym c.if-not-is_member.ensures)
+    one_more c.args.s.now c.loop-i.i c.loop-i.n _ _ c.loop-i.invariant c.loop-i-test.true c.in-Some.ensures (sym c.if-not-is_member.ensures)
 
 pub returns-then-not-is_member : goal.returns-then-not-is_member
 returns-then-not-is_member c =
     let l = c.loop-i in
     let s = c.args.s.now in
-    let r = read_part s l.i _ _ c.in-Some.ensures in
+    let r = c.in-Some.ensures in
     rw (c.fault_of.ensures, part_is s l.i)
     (taken_fault unicode16 s l.invariant.0 l.i l.invariant.1 c.loop-i-test.true (positive s l.i _ _ r) (told s l.i _ _ r false c.if-not-is_member.ensures))
 

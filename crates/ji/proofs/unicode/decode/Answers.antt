@@ -14,7 +14,7 @@ use Rattle.ji.specs.Reading.{spread_text, fault_in, Reading}
 use Rattle.ji.specs.declared.unicode.Spread.{Spread}
 use Rattle.ji.proofs.Writing.{written_length}
 use Rattle.ji.proofs.Parts.{part_is}
-use Rattle.ji.proofs.utf8.Decoding.{width_most, read_part, ill_part}
+use Rattle.ji.proofs.utf8.Decoding.{width_most}
 use Rattle.ji.proofs.unicode.Reader.{spread_room, Read, read_start, read_end, read_ill, read_fault, read_room, read_more}
 use native.Mathlib.Omega.{arith}
 use Rattle.ji.specs.declared.unicode.Spread.TheVariants.{One}
@@ -70,12 +70,12 @@ loop-i-init c = let a = c.args in read_start unicode16 a.decomposed a.s.now a.ou
 pub returns-in_default : goal.returns-in_default
 returns-in_default c =
     let a = c.args in
-    read_ill unicode16 a.decomposed a.s.now a.out.now c.loop-i.out c.loop-i.i c.loop-i.n c.loop-i.invariant c.loop-i-test.true (ill_part a.s.now c.loop-i.i c.in_default.ensures)
+    read_ill unicode16 a.decomposed a.s.now a.out.now c.loop-i.out c.loop-i.i c.loop-i.n c.loop-i.invariant c.loop-i-test.true c.in_default.ensures
 
 pub overflow_cast-sequence : goal.overflow_cast-sequence
 overflow_cast-sequence c =
     let x = c.args in
-    let k = low x.decomposed x.s.now x.out.now c.loop-i.out c.loop-i.i c.loop-i.n _ _ c.loop-i.invariant c.loop-i-test.true (read_part x.s.now c.loop-i.i _ _ c.in-Some.ensures) c.if-not-is_member.ensures in
+    let k = low x.decomposed x.s.now x.out.now c.loop-i.out c.loop-i.i c.loop-i.n _ _ c.loop-i.invariant c.loop-i-test.true c.in-Some.ensures c.if-not-is_member.ensures in
     omega arith
 
 pub put-n-requires : goal.put-n-requires
@@ -93,12 +93,12 @@ loop-i-preserved-then-a-lt128 c =
 pub put-n-requires-else-a-lt128 : goal.put-n-requires-else-a-lt128
 put-n-requires-else-a-lt128 c =
     let x = c.args in
-    room_left x.decomposed x.s.now x.out.now c.loop-i.out c.loop-i.i c.loop-i.n _ _ c.loop-i.invariant c.loop-i-test.true (read_part x.s.now c.loop-i.i _ _ c.in-Some.ensures) c.if-not-is_member.ensures c.spread_point.result c.spread_point.ensures c.requires
+    room_left x.decomposed x.s.now x.out.now c.loop-i.out c.loop-i.i c.loop-i.n _ _ c.loop-i.invariant c.loop-i-test.true c.in-Some.ensures c.if-not-is_member.ensures c.spread_point.result c.spread_point.ensures c.requires
 
 pub overflow_add-i-else-a-lt128 : goal.overflow_add-i-else-a-lt128
 overflow_add-i-else-a-lt128 c =
     let x = c.args in
-    let k = step x.decomposed x.s.now x.out.now c.loop-i.out c.loop-i.i c.loop-i.n _ _ c.loop-i.invariant c.loop-i-test.true (read_part x.s.now c.loop-i.i _ _ c.in-Some.ensures) in
+    let k = step x.decomposed x.s.now x.out.now c.loop-i.out c.loop-i.i c.loop-i.n _ _ c.loop-i.invariant c.loop-i-test.true c.in-Some.ensures in
     omega arith
 
 pub loop-i-smaller : goal.loop-i-smaller
@@ -108,13 +108,13 @@ loop-i-smaller c =
 pub loop-i-preserved : goal.loop-i-preserved
 loop-i-preserved c =
     let x = c.args in
-    again x.decomposed x.s.now x.out.now c.loop-i.out c.loop-i.i c.loop-i.n _ _ c.loop-i.invariant c.loop-i-test.true (read_part x.s.now c.loop-i.i _ _ c.in-Some.ensures) c.if-not-is_member.ensures c.spread_point.result c.spread_point.ensures c.requires c.put-n-else-a-lt128.result c.put-n-else-a-lt128.new.out c.put-n-else-a-lt128.ensures.0 c.put-n-else-a-lt128.ensures.1
+    again x.decomposed x.s.now x.out.now c.loop-i.out c.loop-i.i c.loop-i.n _ _ c.loop-i.invariant c.loop-i-test.true c.in-Some.ensures c.if-not-is_member.ensures c.spread_point.result c.spread_point.ensures c.requires c.put-n-else-a-lt128.result c.put-n-else-a-lt128.new.out c.put-n-else-a-lt128.ensures.0 c.put-n-else-a-lt128.ensures.1
 
 pub returns-then-not-is_member : goal.returns-then-not-is_member
 returns-then-not-is_member c =
     let x = c.args in
     rw (c.fault_of.ensures, part_is x.s.now c.loop-i.i)
-    (returns_outside x.decomposed x.s.now x.out.now c.loop-i.out c.loop-i.i c.loop-i.n _ _ c.loop-i.invariant c.loop-i-test.true (read_part x.s.now c.loop-i.i _ _ c.in-Some.ensures) c.if-not-is_member.ensures)
+    (returns_outside x.decomposed x.s.now x.out.now c.loop-i.out c.loop-i.i c.loop-i.n _ _ c.loop-i.invariant c.loop-i-test.true c.in-Some.ensures c.if-not-is_member.ensures)
 
 pub returns : goal.returns
 returns c =

@@ -14,8 +14,8 @@ use Rattle.ji.proofs.unicode.last_point.Goals as goal
 pub returns-then-is_empty : goal.returns-then-is_empty
 returns-then-is_empty c = point_none c.args.text.now (eqb-true _ _ (sym c.if-is_empty.ensures))
 
-pub read-requires : goal.read-requires
-read-requires c = let ne = eqb-false _ _ (sym c.if-is_empty.ensures) in part_some c.args.text.now c.last_start.result (c.last_start.ensures.2 (omega (arith, ne)))
+pub read_any-requires : goal.read_any-requires
+read_any-requires c = let ne = eqb-false _ _ (sym c.if-is_empty.ensures) in part_some c.args.text.now c.last_start.result (c.last_start.ensures.2 (omega (arith, ne)))
 
 -- a point of more than sixteen bits is none of the table
 cast : {E : Type 0} (s : List ℕ) (p : ℕ) → (p ≤ 0xFFFF → p ≡ last_point s) → (0xFFFF < p → 0 ≡ last_point s)

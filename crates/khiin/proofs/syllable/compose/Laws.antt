@@ -1,14 +1,13 @@
 -- Laws of the rules by which a body is spelled, of the front of a buffer, and of the call.
 use mathlib.Core.Path.{◌≡◌, refl, sym, ap, ap₂, ◌∙◌}
 use mathlib.Core.Bool.{Bool, true, false, not, ◌&&◌, ◌||◌}
-use mathlib.Core.List.{List, [], ◌∷◌, ◌++◌, append-nil}
+use mathlib.Core.List.{List, [], ◌∷◌, ◌++◌}
 use Prim.Native.Nat.{ℕ, suc, ◌+◌, ◌-◌, ◌*◌, ◌≤◌, ◌<◌, suc-le-suc}
 use native.Mathlib.Omega.{arith}
 use borrow.Author.Tests.{eq-eqb, ne_eqb, eqb-true, eqb-false}
 use lib.Dec.{ltb, eqb}
-use borrow.Rule.Slice.PartMut.{put_mid, mid_of}
-use lib.ListN.{length, take, drop, get_or, set, length-drop, drop_of_length-le}
-use lib.Seq.{length-take-le, take-length, take-take, take-add, get_or-drop, drop-drop, drop_at, set_at}
+use lib.ListN.{length, take, drop, get_or, set, get_or-append, drop_of_length-le}
+use lib.Seq.{length-take-le, take-length, take-take, take-add, take-suc, get_or-take, get_or-drop, drop-cons, drop-drop, drop_at, set_at, split_at, append_snoc}
 use Rattle.std.specs.List.{starts_with}
 use Rattle.ji.specs.Unicode.{unicode16, pick_text, listed}
 use Rattle.ji.specs.Text.{points, marked, point, lower, begins, replace_all, last}
@@ -412,26 +411,47 @@ module _ (c : ℕ) where
 
 -- ── a mark put into a text in place
 -- what follows place i has moved up by one, over the last
--- a text turned by one place begins with its last element
-turned : (t : List ℕ) → 0 < length t → drop (length t - 1) t ++ take (length t - 1) t ≡ get_or t (length t - 1) 0 ∷ take (length t - 1) t
-turned t some =
-    ap (λ (u : List ℕ). u ++ take (length t - 1) t)
-    (drop_next t (length t - 1) (omega arith) ∙ ap (λ (u : List ℕ). get_or t (length t - 1) 0 ∷ u) (drop_of_length-le t (omega arith)))
+abbrev pub shifted : List ℕ → ℕ → List ℕ
+shifted s i = take i s ++ (get_or s i 0 ∷ take (length s - 1 - i) (drop i s))
 
--- after `s[k..].rotate_right(1)` and `s[k] = x`
-pub inserted_rotated : (s part : List ℕ) (k x : ℕ) → k < length s → part ≡ drop (length (mid_of k (length s - k) s) - 1) (mid_of k (length s - k) s) ++ take (length (mid_of k (length s - k) s) - 1) (mid_of k (length s - k) s)
-    → set (put_mid k (length s - k) s part) k x ≡ inserted k x s
-inserted_rotated s part k x h e =
-    let m : List ℕ = mid_of k (length s - k) s in
-    let end : List ℕ = drop (length s - k) (drop k s) in
-    let size : length m ≡ length s - k = length-take-le (length s - k) (drop k s) (omega (arith, length-drop k s)) in
-    let count : length m - 1 ≡ length s - 1 - k = omega (arith, size) in
-    let front : take (length m - 1) m ≡ take (length s - 1 - k) (drop k s) =
-    ap (λ (j : ℕ). take j m) count ∙ take-take (length s - 1 - k) (length s - k) (drop k s) (omega arith) in
-    let nothing : end ≡ [] = drop_of_length-le (drop k s) (omega (arith, length-drop k s)) in
-    ap (λ (p : List ℕ). set (take k s ++ (p ++ end)) k x) (e ∙ turned m (omega (arith, size)))
-    ∙ set_at (take k s) (get_or m (length m - 1) 0) (take (length m - 1) m ++ end) x k (length-take-le k s (omega arith))
-    ∙ ap (λ (l : List ℕ). take k s ++ (x ∷ l)) (ap₂ (λ (a b : List ℕ). a ++ b) front nothing ∙ append-nil (take (length s - 1 - k) (drop k s)))
+pub shifted_start : (s : List ℕ) → 0 < length s → s ≡ shifted s (length s - 1)
+shifted_start s h =
+    let m : ℕ = length s - 1 in
+    let end : length s ≤ suc m = omega arith in
+    let nothing : m - m ≡ 0 = omega arith in
+    split_at s m 0 (omega arith)
+    ∙ ap (λ (l : List ℕ). take m s ++ (get_or s m 0 ∷ l)) (drop_of_length-le s end ∙ ap (λ (k : ℕ). take k (drop m s)) (sym nothing))
+
+module _ (s₀ s : List ℕ) (i : ℕ) where
+  -- the store at i
+  stored : (x : ℕ) → i < length s₀ → s ≡ shifted s₀ i → set s i x ≡ take i s₀ ++ (x ∷ take (length s₀ - 1 - i) (drop i s₀))
+  stored x h e =
+      ap (λ (l : List ℕ). set l i x) e
+      ∙ set_at (take i s₀) (get_or s₀ i 0) (take (length s₀ - 1 - i) (drop i s₀)) x i (length-take-le i s₀ (omega arith))
+
+  pub shifted_step : 0 < i → i < length s₀ → s ≡ shifted s₀ i → set s i (get_or s (i - 1) 0) ≡ shifted s₀ (i - 1)
+  shifted_step pos h e =
+      let j : ℕ = i - 1 in
+      let next : i ≡ suc j = omega arith in
+      let x : ℕ = get_or s₀ j 0 in
+      let rest : List ℕ = take (length s₀ - 1 - i) (drop i s₀) in
+      let same : get_or s j 0 ≡ x = unmoved j next in
+      let more : length s₀ - 1 - j ≡ suc (length s₀ - 1 - i) = omega arith in
+      let behind : take (length s₀ - 1 - j) (drop j s₀) ≡ x ∷ rest = rw (more, drop-cons s₀ j 0 (omega arith), ← next) in
+      ap (set s i) same
+      ∙ stored x h e
+      ∙ ap (λ (l : List ℕ). l ++ (x ∷ rest)) (ap (λ (k : ℕ). take k s₀) next ∙ take-suc s₀ j 0 (omega arith))
+      ∙ append_snoc (take j s₀) x (x ∷ rest)
+      ∙ ap (λ (l : List ℕ). take j s₀ ++ (x ∷ l)) (sym behind)
+    where
+      unmoved : (j : ℕ) → i ≡ suc j → get_or s j 0 ≡ get_or s₀ j 0
+      unmoved j next =
+          ap (λ (l : List ℕ). get_or l j 0) e
+          ∙ get_or-append (take i s₀) _ 0 j (rw (length-take-le i s₀ (omega arith)) (omega arith))
+          ∙ get_or-take i s₀ j 0 (omega arith)
+
+pub shifted_end : (s₀ s : List ℕ) (k x : ℕ) → k < length s₀ → s ≡ shifted s₀ k → set s k x ≡ inserted k x s₀
+shifted_end s₀ s k x h e = stored s₀ s k x h e
 
 -- the same of the first n + 1 places: the mark stands in the text of the first n
 module _ (s : List ℕ) (n k x : ℕ) (h : n < length s) (l : k ≤ n) where

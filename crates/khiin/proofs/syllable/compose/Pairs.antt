@@ -5,14 +5,14 @@ use mathlib.Core.List.{List, [], ◌∷◌}
 use Prim.Native.Nat.{ℕ, ◌+◌, ◌≤◌, ◌<◌}
 use lib.Dec.{eqb}
 use lib.ListN.{length, drop, get_or, drop_of_length-le}
-use borrow.Author.Tests.{eqb-true}
+use borrow.Author.Tests.{eq-eqb, eqb-true}
 use Rattle.ji.specs.Unicode.{listed}
 use Rattle.ji.specs.Text.{points, begins, replace_all}
 use Rattle.ji.specs.Lomaji.Keys.{respell}
-use Rattle.ji.proofs.Bools.{either, false_true, and_yes, and_false, and_left, and_right}
+use Rattle.ji.proofs.Bools.{either, false_true, and_yes, and_false, and_left, and_right, or_yes, or_no}
 use Rattle.ji.proofs.text.Laws.{drop_next, replace_nil, replace_miss}
 use Rattle.khiin.specs.Syllable.{vowel_rules}
-use Rattle.khiin.specs.Compose.{apart_from}
+use Rattle.khiin.specs.Compose.{apart_from, o_pairs, e_pairs}
 
 module _ (F G : List ℕ) where
   -- the walk
@@ -68,3 +68,32 @@ module _ (F G : List ℕ) where
 pub vowels_apart : (s : List ℕ) → apart_from (points "oOeE") (points "oOuU") 0 s ≡ true → respell vowel_rules s ≡ s
 unfolding listed
 vowels_apart s h = respell_apart (points "oOeE") (points "oOuU") vowel_rules ((0x6F, 0x75, refl, refl, refl), ((0x6F, 0x55, refl, refl, refl), ((0x4F, 0x75, refl, refl, refl), ((0x4F, 0x55, refl, refl, refl), ((0x6F, 0x6F, refl, refl, refl), ((0x6F, 0x4F, refl, refl, refl), ((0x4F, 0x6F, refl, refl, refl), ((0x4F, 0x4F, refl, refl, refl), ((0x65, 0x6F, refl, refl, refl), ((0x45, 0x6F, refl, refl, refl), ((0x65, 0x4F, refl, refl, refl), ((0x45, 0x4F, refl, refl, refl), ((0x65, 0x75, refl, refl, refl), ((0x45, 0x75, refl, refl, refl), ((0x65, 0x55, refl, refl, refl), ((0x45, 0x55, refl, refl, refl), tt)))))))))))))))) 0 s h
+
+-- those of a group
+listed_first : (a b : ℕ) → listed (a ∷ b ∷ []) a ≡ true
+unfolding listed
+listed_first a b = or_yes _ _ (eq-eqb a a refl)
+
+listed_last : (a b : ℕ) → listed (a ∷ b ∷ []) b ≡ true
+unfolding listed
+listed_last a b =
+    either (eqb a b) (λ e. or_yes _ _ e) (λ n. or_no _ _ n ∙ or_yes _ _ (eq-eqb b b refl))
+
+module _ (small capital : ℕ) (s : List ℕ) where
+  pub o_apart : apart_from (0x6F ∷ 0x4F ∷ []) (small ∷ capital ∷ []) 0 s ≡ true → respell (o_pairs small capital) s ≡ s
+  o_apart h =
+      let a = listed_first small capital in
+      let b = listed_last small capital in
+      let o = listed_first 0x6F 0x4F in
+      let p = listed_last 0x6F 0x4F in
+      respell_apart (0x6F ∷ 0x4F ∷ []) (small ∷ capital ∷ []) (o_pairs small capital)
+      ((0x6F, small, refl, o, a), ((0x6F, capital, refl, o, b), ((0x4F, small, refl, p, a), ((0x4F, capital, refl, p, b), tt)))) 0 s h
+
+  pub e_apart : apart_from (0x65 ∷ 0x45 ∷ []) (small ∷ capital ∷ []) 0 s ≡ true → respell (e_pairs small capital) s ≡ s
+  e_apart h =
+      let a = listed_first small capital in
+      let b = listed_last small capital in
+      let e = listed_first 0x65 0x45 in
+      let f = listed_last 0x65 0x45 in
+      respell_apart (0x65 ∷ 0x45 ∷ []) (small ∷ capital ∷ []) (e_pairs small capital)
+      ((0x65, small, refl, e, a), ((0x45, small, refl, f, a), ((0x65, capital, refl, e, b), ((0x45, capital, refl, f, b), tt)))) 0 s h

@@ -14,7 +14,6 @@ use Rattle.ji.specs.Lomaji.Quick.{Further, Walked}
 use Rattle.ji.specs.declared.lomaji.quick.Marks.{Marks}
 use Rattle.ji.proofs.Writing.{written_length}
 use Rattle.ji.proofs.utf8.Laws.{read_one}
-use Rattle.ji.proofs.utf8.Decoding.{read_part}
 use Rattle.ji.proofs.unicode.Reader.{width_within}
 use Rattle.ji.proofs.unicode.Ascii.{ascii_member}
 use Rattle.ji.proofs.lomaji.quick.Laws.{further_same, ascii_full, Walking, walking_start, walking_more, walking_end}
@@ -63,7 +62,7 @@ pub push_point-n-requires : goal.push_point-n-requires
 push_point-n-requires c = omega (arith, c.if-out-n.false)
 
 pub overflow_add-i-else-a-lt128 : goal.overflow_add-i-else-a-lt128
-overflow_add-i-else-a-lt128 c = omega (arith, ends c.args.s.now c.args.out.now c.loop-i.out c.loop-i.i c.loop-i.n c.loop-i.marks c.loop-i.invariant c.loop-i-test.true _ _ (read_part c.args.s.now c.loop-i.i _ _ c.in_ok-sequence.ensures))
+overflow_add-i-else-a-lt128 c = omega (arith, ends c.args.s.now c.args.out.now c.loop-i.out c.loop-i.i c.loop-i.n c.loop-i.marks c.loop-i.invariant c.loop-i-test.true _ _ c.in_ok-sequence.ensures)
 
 pub loop-i-smaller : goal.loop-i-smaller
 loop-i-smaller c = omega (arith, c.in_ok-sequence.ensures.some)
@@ -71,7 +70,7 @@ loop-i-smaller c = omega (arith, c.in_ok-sequence.ensures.some)
 pub loop-i-preserved : goal.loop-i-preserved
 loop-i-preserved c =
     let w = c.push_point-n in
-    again c.args.s.now c.args.out.now c.loop-i.out c.loop-i.i c.loop-i.n c.loop-i.marks c.loop-i.invariant c.loop-i-test.true _ _ (read_part c.args.s.now c.loop-i.i _ _ c.in_ok-sequence.ensures) c.if-not-is_member.ensures c.if-out-n.false w.result w.new.marks _ w.ensures.0 w.ensures.1
+    again c.args.s.now c.args.out.now c.loop-i.out c.loop-i.i c.loop-i.n c.loop-i.marks c.loop-i.invariant c.loop-i-test.true _ _ c.in_ok-sequence.ensures c.if-not-is_member.ensures c.if-out-n.false w.result w.new.marks _ w.ensures.0 w.ensures.1
 
 module _ (s before out : List ℕ) (i n : ℕ) (p : Marks) (r : Walking s before out i n p) (h : length s ≤ i) where
   ended : (b : Bool) → p.sorted ≡ b → Walked s before out (then_some b (record { 0 = n }, p.tone))

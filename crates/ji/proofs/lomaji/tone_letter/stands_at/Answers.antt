@@ -2,14 +2,16 @@ use Rattle.std.proofs.Common.{rules}
 use mathlib.Core.Path.{◌≡◌, sym, ap, ◌∙◌}
 use mathlib.Core.Bool.{true, false}
 use mathlib.Core.List.{List, map}
-use Prim.Native.Nat.{ℕ, ◌+◌, ◌<◌}
+use Prim.Native.Nat.{ℕ, ◌+◌, ◌≤◌, ◌<◌}
+use native.Mathlib.Omega.{arith}
 use borrow.Author.Tests.{eqb-true, eqb-false}
 use lib.Dec.{eqb}
 use lib.ListN.{length, drop, get_or}
 use Rattle.std.proofs.lemmas.List.{get_or-map}
 use Rattle.ji.specs.Text.{point, lower}
 use Rattle.ji.specs.Lomaji.ToneLetter.{matches}
-use Rattle.ji.proofs.lomaji.tone_letter.Laws.{pattern, first_letter, begun, not_begun, one_letter, is_g}
+use Rattle.ji.specs.declared.lomaji.tone_letter.TheConstants.{FIRST}
+use Rattle.ji.proofs.lomaji.tone_letter.Laws.{pattern, all_at, first_letter, begun, not_begun, one_letter, is_g}
 use Rattle.ji.proofs.lomaji.tone_letter.stands_at.Goals as goal
 
 -- the letter that was read, x, and its number, n
@@ -25,7 +27,10 @@ module _ {X : Type 0} (number : X → ℕ) (xs : List X) (at : ℕ) (inside : at
     differs e = not_begun (map number xs) at k h _ _ letter f (eqb-false _ _ e)
 
 pub is_letter-requires : goal.is_letter-requires
-is_letter-requires g c = let f = first_letter c.args.k c.requires.0 in (f.1, f.2)
+is_letter-requires g c =
+    all_at (λ x. (0x61 ≤ x) × (x ≤ 0x7A)) FIRST
+    ((omega arith, omega arith), ((omega arith, omega arith), ((omega arith, omega arith), ((omega arith, omega arith), ((omega arith, omega arith), ((omega arith, omega arith), ((omega arith, omega arith), ((omega arith, omega arith), ((omega arith, omega arith), tt)))))))))
+    c.args.k c.requires.0
 
 pub returns-in-0 : goal.returns-in-0
 returns-in-0 g c =
